@@ -1,0 +1,33 @@
+use crate::body::Body;
+use levels::Party;
+
+/// An ordered pair of parties. Its messages are numbered from 0 by the sends that were accepted.
+#[derive(Clone, Copy, Debug, PartialEq, Eq)]
+pub struct Stream {
+    pub from: Party,
+    pub to: Party,
+}
+
+/// What a host does, and what the network does at a unit.
+#[derive(Debug, Drop)]
+pub enum Event {
+    /// A host sends a message.
+    Send {
+        from: u8,
+        to: Party,
+        message: Body,
+    },
+    /// The network hands one piece of a message to a unit. Pieces are numbered from 0 to 63.
+    Arrive {
+        stream: Stream,
+        message: u32,
+        piece: u8,
+        at: Party,
+    },
+    /// The network hands all pieces of a message to a unit, in order, as one event.
+    Carry {
+        stream: Stream,
+        message: u32,
+        at: Party,
+    },
+}

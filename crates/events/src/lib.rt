@@ -1,0 +1,10 @@
+//! The events of a script, and the script that holds them.
+#![tactic(auto)]
+
+mod body;
+mod event;
+mod script;
+
+pub use body::Body;
+pub use event::{Event, Stream};
+pub use script::{Script, ScriptStop};

@@ -1,0 +1,4 @@
+mod Apart
+mod Bits
+mod Growth
+mod Padding

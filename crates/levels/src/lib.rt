@@ -1,0 +1,11 @@
+#![tactic(auto)]
+
+mod level;
+mod name;
+mod roster;
+mod rows;
+
+pub use level::{Level, Partition, Party, Sealing};
+pub use name::LevelName;
+pub use roster::{Roster, RosterStop};
+pub use rows::{HostRow, LevelRow};
