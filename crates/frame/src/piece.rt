@@ -1,0 +1,144 @@
+ghost use Rattle.std.specs.Prelude.{◌≡◌, ◌<◌, ◌≤◌, length};
+ghost use Rattle.frame.specs.Pieces.{piece_count, piece_bytes, padded, piece_of, IsPiece};
+
+use std::marker::Model;
+
+/// The most bytes of a message.
+pub const MESSAGE_LIMIT: usize = 5632;
+
+/// The bytes of a piece that is full.
+pub const PIECE_SIZE: usize = 88;
+
+/// A part of a message, as it goes from a sender to a receiver of one partition.
+#[derive(Clone, Copy, Debug, PartialEq, Eq)]
+pub struct Piece {
+    from: u8,
+    to: u8,
+    message: u32,
+    piece: u8,
+    last: u8,
+    used: u8,
+    partition: u8,
+    payload: [u8; 88],
+}
+
+impl Model for Piece {
+    ghost use Rattle.frame.specs.Pieces.{PieceView, IsPiece};
+
+    ghost Value = { PieceView };
+
+    ghost use Rattle.frame.specs.PieceInside.{fields_of, inside_of};
+
+    ghost view = { fields_of };
+
+    ghost invariant = { λ a. IsPiece (fields_of a) };
+
+    ghost inverse = { inside_of };
+}
+
+impl Piece {
+    /// The sender's address, 0 for the manager unit.
+    pub fn from(&self) -> u8
+        ensures from { result ≡ self.now.from }
+        ensures kept { IsPiece self.now }
+    {
+        self.from
+    }
+
+    /// The receiver's address, 0 for the manager unit.
+    pub fn to(&self) -> u8
+        ensures { result ≡ self.now.to }
+    {
+        self.to
+    }
+
+    /// The number of the message in its stream.
+    pub fn message(&self) -> u32
+        ensures { result ≡ self.now.message }
+    {
+        self.message
+    }
+
+    /// The number of this piece, from 0.
+    pub fn piece(&self) -> u8
+        ensures { result ≡ self.now.piece }
+    {
+        self.piece
+    }
+
+    /// The number of the message's last piece.
+    pub fn last(&self) -> u8
+        ensures { result ≡ self.now.last }
+    {
+        self.last
+    }
+
+    /// How many bytes of the payload are the message's.
+    pub fn used(&self) -> u8
+        ensures { result ≡ self.now.used }
+    {
+        self.used
+    }
+
+    pub fn partition(&self) -> u8
+        ensures { result ≡ self.now.partition }
+    {
+        self.partition
+    }
+
+    /// The bytes, and zeros behind the used ones.
+    pub fn payload(&self) -> &[u8; 88]
+        ensures { result.now ≡ self.now.payload }
+    {
+        &self.payload
+    }
+}
+
+/// How many pieces a message of so many bytes has.
+#[tactic(auto, unfolding(crate::specs::Pieces::piece_count))]
+pub fn pieces(len: usize) -> u8
+    requires { len ≤ MESSAGE_LIMIT }
+    ensures count { result ≡ piece_count len }
+    ensures few { result ≤ 64 }
+{
+    (len.div_ceil(PIECE_SIZE) as u8).max(1)
+}
+
+/// The bytes of the i-th piece.
+fn piece_bytes(body: &[u8], i: u8) -> &[u8]
+    requires { i < piece_count (length body.now) }
+    ensures bytes { result.now ≡ piece_bytes body.now i }
+    ensures short { length result.now ≤ PIECE_SIZE }
+{
+    let rest = &body[PIECE_SIZE * i as usize..];
+    &rest[..rest.len().min(PIECE_SIZE)]
+}
+
+/// The bytes, and zeros behind them.
+fn padded(bytes: &[u8]) -> [u8; 88]
+    requires { length bytes.now ≤ PIECE_SIZE }
+    ensures { result ≡ padded bytes.now }
+{
+    let mut payload = [0u8; 88];
+    payload[..bytes.len()].copy_from_slice(bytes);
+    payload
+}
+
+/// The i-th piece of a message, from 0.
+pub fn cut(from: u8, to: u8, partition: u8, message: u32, body: &[u8], i: u8) -> Piece
+    requires length { length body.now ≤ MESSAGE_LIMIT }
+    requires piece { i < piece_count (length body.now) }
+    ensures { result ≡ piece_of from to partition message body.now i }
+{
+    let bytes = piece_bytes(body, i);
+    Piece {
+        from,
+        to,
+        message,
+        piece: i,
+        last: pieces(body.len()) - 1,
+        used: bytes.len() as u8,
+        partition,
+        payload: padded(bytes),
+    }
+}
