@@ -1,3 +1,4 @@
 pub mod Bytes
 pub mod ScriptView
 pub mod Scripts
+pub mod Words

@@ -4,7 +4,9 @@
 mod body;
 mod event;
 mod script;
+mod words;
 
 pub use body::Body;
 pub use event::{Event, Stream};
 pub use script::{Script, ScriptStop};
+pub use words::{push_hex, push_number};
