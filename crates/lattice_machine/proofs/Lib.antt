@@ -1,0 +1,4 @@
+mod Arrivals
+mod Bools
+mod Giving
+mod LowPart
