@@ -10,3 +10,6 @@ pub use body::Body;
 pub use event::{Event, Stream};
 pub use script::{Script, ScriptStop};
 pub use words::{push_hex, push_number};
+
+#[cfg(test)]
+mod tests;

@@ -7,3 +7,5 @@ pub use piece::{MESSAGE_LIMIT, PIECE_SIZE, Piece, cut, pieces};
 pub use refused::SendRefused;
 
 mod refused;
+#[cfg(test)]
+mod tests;

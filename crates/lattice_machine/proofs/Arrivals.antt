@@ -83,7 +83,7 @@ nat_cases i k = grind arith
 pub after_more : (events : List Event) (n : ℕ) (e : Event) → slice_get events n ≡ Some e → after events (n + 1) ≡ e ∷ after events n
 after_more events n e is = ap reverse (take_more events n e (slice_get_within events n e is)) ∙ rw (get_or_from_slice_get events n e e is) (reverse-append (take n events) (e ∷ []))
 
-event_there : (events : List Event) (n : ℕ) → n < length events → (e : Event) × (slice_get events n ≡ Some e)
+pub event_there : (events : List Event) (n : ℕ) → n < length events → (e : Event) × (slice_get events n ≡ Some e)
 event_there [] n lt = absurd (omega (arith, lt))
 event_there (e ∷ events) zero lt = (e, refl)
 event_there (e ∷ events) (suc n) lt = event_there events n (omega (arith, lt))

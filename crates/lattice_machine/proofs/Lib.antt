@@ -2,3 +2,4 @@ mod Arrivals
 mod Bools
 mod Giving
 mod LowPart
+mod Steps

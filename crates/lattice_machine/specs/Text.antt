@@ -47,6 +47,10 @@ abbrev pub due_at : ScriptView → Option HostRow → List ℕ
 due_at script None = []
 due_at script (Some row) = due_to script row
 
--- the text of a script: what is due to each host, in rising order of address
-unfoldable pub text : ScriptView → List ℕ
-text script = flat_map (λ address. due_at script (host_row script.roster address)) (range_with_len 1 250)
+-- what is due to the hosts of the addresses from 1 up to the last, in rising order
+unfoldable pub text_to : ScriptView → ℕ → List ℕ
+text_to script last = flat_map (λ address. due_at script (host_row script.roster address)) (range_with_len 1 last)
+
+-- the text of a script: what is due to each of its hosts
+abbrev pub text : ScriptView → List ℕ
+text script = text_to script 250

@@ -9,3 +9,6 @@ pub use level::{Level, Partition, Party, Sealing};
 pub use name::LevelName;
 pub use roster::{Roster, RosterStop};
 pub use rows::{HostRow, LevelRow};
+
+#[cfg(test)]
+mod tests;

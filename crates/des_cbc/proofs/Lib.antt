@@ -1,0 +1,12 @@
+pub mod Additive
+pub mod Linear
+pub mod Permutations
+pub mod SelectionWords
+pub mod KeyWords
+pub mod RoundWalk
+pub mod Blocks
+pub mod ChainWalk
+pub mod SealWalk
+pub mod OpenWalk
+pub mod Sealed
+pub mod ParityWords

@@ -1,0 +1,13 @@
+pub mod Tables
+pub mod Selections
+pub mod Bits
+pub mod Cipher
+pub mod Chaining
+pub mod Sealing
+pub mod Parity
+pub mod Words
+pub mod Shapes
+pub mod BitLaws
+pub mod CipherLaws
+pub mod TextLaws
+pub mod ChainLaws

@@ -1,0 +1,2 @@
+mod TakenBytes
+mod WrittenBytes

@@ -1,0 +1,9 @@
+mod Places
+mod Maps
+mod Follows
+mod Handing
+mod Standing
+mod Idle
+mod Due
+mod Owing
+mod Ends

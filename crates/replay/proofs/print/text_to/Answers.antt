@@ -1,0 +1,13 @@
+use Rattle.std.proofs.Common.{sym, ap, ◌∙◌, arith}
+use Rattle.lattice_machine.specs.Text.{text_to}
+use Rattle.replay.proofs.Due.{text_at_first, text_step}
+use Rattle.replay.proofs.print.text_to.Goals as goal
+
+pub loop-address-init : goal.loop-address-init
+loop-address-init c = c.new-out.ensures.items ∙ sym (text_at_first c.args.script.now)
+
+pub loop-address-preserved : goal.loop-address-preserved
+loop-address-preserved c = text_step c.args.script.now c.loop-address.address c.loop-address.out.items _ (omega arith) c.loop-address.invariant c.in_ok-push_host_at.ensures
+
+pub returns : goal.returns
+returns c = c.loop-address.invariant ∙ ap (text_to c.args.script.now) (omega arith)

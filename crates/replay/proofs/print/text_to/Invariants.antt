@@ -1,0 +1,6 @@
+use Rattle.std.proofs.Common.{◌≡◌, ◌-◌}
+use Rattle.lattice_machine.specs.Text.{text_to}
+use Rattle.replay.proofs.print.text_to.Given as goal
+
+abbrev pub invariant-loop-address : goal.invariant-loop-address
+invariant-loop-address l = l.out.items ≡ text_to l.script (l.address - 1)

@@ -1,0 +1,4 @@
+pub mod UnitState
+pub mod Units
+pub mod Due
+pub mod Status

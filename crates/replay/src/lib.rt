@@ -1,0 +1,16 @@
+//! The top call of the program: what it does with its words, its input and its output.
+#![tactic(auto)]
+
+mod command;
+mod engine;
+mod owed;
+mod print;
+mod status;
+mod top;
+mod unit;
+
+pub use status::Status;
+pub use top::run;
+
+#[cfg(test)]
+mod tests;

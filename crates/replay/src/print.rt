@@ -1,0 +1,198 @@
+ghost use Rattle.std.specs.Prelude.{◌≡◌, ◌++◌, ◌<◌, ◌≤◌, length, map, OnOk, IfOk, Some, slice_get};
+ghost use Rattle.std.specs.List.{flat_map};
+ghost use Rattle.levels.specs.declared.level.Party.TheVariants.{Host, Manager};
+ghost use Rattle.levels.specs.Rosters.{host_row};
+ghost use Rattle.events.specs.Words.{party_word};
+ghost use Rattle.lattice_machine.specs.Told.{told};
+ghost use Rattle.lattice_machine.specs.Text.{refusal_word, line_text, heading, host_text, due_at, text_to, text};
+ghost use Rattle.lattice_machine.specs.declared.line.OutLine.TheVariants.{Sent, Refused, From};
+
+use crate::engine::{Report, place_of};
+use events::{Body, Script, push_hex, push_number};
+use frame::SendRefused;
+use lattice_machine::OutLine;
+use levels::{Partition, Party, Roster};
+use std::alloc::{AllocError, Global};
+
+/// The greatest address of a host.
+const LAST_ADDRESS: u8 = 250;
+
+fn push_party(
+    alloc: Global,
+    out: &mut Vec<u8>,
+    roster: &Roster,
+    party: Party,
+) -> Result<(), AllocError>
+    ensures { OnOk result (out.new.items ≡ out.old.items ++ party_word roster.now party) }
+{
+    match party {
+        Party::Host(address) => push_number(alloc, out, u32::from(address)),
+        Party::Manager(partition) => push_name(out, roster, partition),
+    }
+}
+
+fn push_name(out: &mut Vec<u8>, roster: &Roster, partition: Partition) -> Result<(), AllocError>
+    ensures { OnOk result (out.new.items ≡ out.old.items ++ party_word roster.now (Manager partition)) }
+{
+    if partition.0 >= roster.level_count() {
+        return Ok(());
+    }
+    let name = roster.name_at(partition);
+    out.extend_from_slice(name.bytes())
+}
+
+fn push_sent(
+    alloc: Global,
+    out: &mut Vec<u8>,
+    roster: &Roster,
+    to: Party,
+    message: u32,
+) -> Result<(), AllocError>
+    ensures { OnOk result (out.new.items ≡ out.old.items ++ line_text roster.now (Sent to message)) }
+{
+    out.extend_from_slice(b"sent ".as_slice())?;
+    push_party(alloc, out, roster, to)?;
+    out.extend_from_slice(b" ".as_slice())?;
+    push_number(alloc, out, message)?;
+    out.extend_from_slice(b"\n".as_slice())
+}
+
+fn refusal_word(why: SendRefused) -> &'static [u8]
+    ensures { result.now ≡ refusal_word why }
+{
+    match why {
+        SendRefused::NoPartner => b"nopartner".as_slice(),
+        SendRefused::TooLong => b"toolong".as_slice(),
+        SendRefused::Spent => b"spent".as_slice(),
+    }
+}
+
+fn push_refused(
+    alloc: Global,
+    out: &mut Vec<u8>,
+    roster: &Roster,
+    to: Party,
+    why: SendRefused,
+) -> Result<(), AllocError>
+    ensures { OnOk result (out.new.items ≡ out.old.items ++ line_text roster.now (Refused to why)) }
+{
+    out.extend_from_slice(b"refused ".as_slice())?;
+    push_party(alloc, out, roster, to)?;
+    out.extend_from_slice(b" ".as_slice())?;
+    out.extend_from_slice(refusal_word(why))?;
+    out.extend_from_slice(b"\n".as_slice())
+}
+
+fn push_given(
+    alloc: Global,
+    out: &mut Vec<u8>,
+    roster: &Roster,
+    from: Party,
+    body: &Body,
+) -> Result<(), AllocError>
+    ensures { OnOk result (out.new.items ≡ out.old.items ++ line_text roster.now (From from body.now)) }
+{
+    out.extend_from_slice(b"from ".as_slice())?;
+    push_party(alloc, out, roster, from)?;
+    out.extend_from_slice(b" ".as_slice())?;
+    push_hex(alloc, out, body.bytes())?;
+    out.extend_from_slice(b"\n".as_slice())
+}
+
+fn push_line(
+    alloc: Global,
+    out: &mut Vec<u8>,
+    roster: &Roster,
+    line: &OutLine,
+) -> Result<(), AllocError>
+    ensures { OnOk result (out.new.items ≡ out.old.items ++ line_text roster.now line.now) }
+{
+    match line {
+        OutLine::Sent { to, message } => push_sent(alloc, out, roster, *to, *message),
+        OutLine::Refused { to, why } => push_refused(alloc, out, roster, *to, *why),
+        OutLine::From { from, body } => push_given(alloc, out, roster, *from, body),
+    }
+}
+
+fn push_lines(
+    alloc: Global,
+    out: &mut Vec<u8>,
+    roster: &Roster,
+    lines: &[OutLine],
+) -> Result<(), AllocError>
+    ensures { OnOk result (out.new.items ≡ out.old.items ++ flat_map (line_text roster.now) lines.now) }
+{
+    for line in lines {
+        push_line(alloc, out, roster, line)?;
+    }
+    Ok(())
+}
+
+/// The heading of a host, and below it what it was told.
+fn push_host(
+    alloc: Global,
+    out: &mut Vec<u8>,
+    roster: &Roster,
+    address: u8,
+    partition: Partition,
+    lines: &[OutLine],
+) -> Result<(), AllocError>
+    ensures { OnOk result (out.new.items
+        ≡ out.old.items ++ host_text roster.now (record { address = address; partition = partition }) lines.now) }
+{
+    out.extend_from_slice(b"host ".as_slice())?;
+    push_number(alloc, out, u32::from(address))?;
+    out.extend_from_slice(b" ".as_slice())?;
+    push_name(out, roster, partition)?;
+    out.extend_from_slice(b"\n".as_slice())?;
+    push_lines(alloc, out, roster, lines)
+}
+
+/// What is due to the host of an address, if there is one.
+fn push_host_at(
+    alloc: Global,
+    out: &mut Vec<u8>,
+    script: &Script,
+    report: &Report,
+    address: u8,
+) -> Result<(), AllocError>
+    requires { report.now ≡ map (λ row. told script.now.roster script.now.events (Host row.address)) script.now.roster.hosts }
+    ensures { OnOk result (out.new.items ≡ out.old.items ++ due_at script.now (host_row script.now.roster address)) }
+{
+    // What the host was told in the whole run is what the events at or below its level tell it.
+    lattice_machine::only_low_events_count();
+    let roster = script.roster();
+    let Some(place) = place_of(roster, address) else {
+        return Ok(());
+    };
+    let (_, partition) = roster.host_at(place as u8);
+    push_host(
+        alloc,
+        out,
+        roster,
+        address,
+        partition,
+        report.lines_at(place),
+    )
+}
+
+/// What is due to the hosts of the addresses from 1 to the last.
+fn text_to(alloc: Global, script: &Script, report: &Report, last: u8) -> Result<Vec<u8>, AllocError>
+    requires last { last < 255 }
+    requires report { report.now ≡ map (λ row. told script.now.roster script.now.events (Host row.address)) script.now.roster.hosts }
+    ensures { IfOk result (λ written. written.items ≡ text_to script.now last) }
+{
+    let mut out = Vec::new(alloc);
+    for address in 1..last + 1 {
+        push_host_at(alloc, &mut out, script, report, address)?;
+    }
+    Ok(out)
+}
+
+/// The text of a run: what each host was told, in rising order of address.
+pub fn text(alloc: Global, script: &Script, report: &Report) -> Result<Vec<u8>, AllocError>
+    requires { report.now ≡ map (λ row. told script.now.roster script.now.events (Host row.address)) script.now.roster.hosts }
+    ensures { IfOk result (λ written. written.items ≡ text script.now) }
+{
+    text_to(alloc, script, report, LAST_ADDRESS)
+}

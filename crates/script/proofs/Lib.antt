@@ -1,0 +1,17 @@
+mod Cutting
+mod Digits
+mod Tools
+mod Numbers
+mod HexWords
+mod Letters
+mod Spellings
+mod Forms
+mod Naming
+mod Pushes
+mod Planes
+mod Reached
+mod Looping
+mod Writing
+mod Outcomes
+mod Found
+mod Again

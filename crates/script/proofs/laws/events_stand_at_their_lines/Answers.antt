@@ -1,0 +1,5 @@
+use Rattle.script.proofs.Again.{events_stand}
+use Rattle.script.proofs.laws.events_stand_at_their_lines.Goals as goal
+
+pub returns : goal.returns
+returns c = events_stand

@@ -1,0 +1,7 @@
+use Rattle.std.proofs.Common.{◌≡◌, ◌++◌, take, map}
+use Rattle.std.specs.List.{flat_map}
+use Rattle.script.specs.Text.{ended_text, line_of_host}
+use Rattle.script.proofs.write.write_hosts.Given as goal
+
+abbrev pub invariant-loop-i : goal.invariant-loop-i
+invariant-loop-i l = l.text.items ≡ l.initial.text.items ++ flat_map ended_text (map (line_of_host l.roster) (take l.i l.roster.hosts))

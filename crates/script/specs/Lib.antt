@@ -1,0 +1,9 @@
+pub mod Spelling
+pub mod Reading
+pub mod Facts
+pub mod Reasons
+pub mod Text
+pub mod Plain
+pub mod Answers
+pub mod Stages
+pub mod Laws

@@ -1,0 +1,27 @@
+//! Script text: reading it, with the first line that is refused, and writing it.
+#![tactic(auto)]
+
+mod categories;
+mod cut;
+mod laws;
+mod line;
+mod message;
+mod number;
+mod read;
+mod reading;
+mod refusal;
+mod stage;
+mod words;
+mod write;
+
+pub use events::{Body, Event, Script, ScriptStop, Stream};
+pub use laws::{
+    clean_texts_are_their_own, each_text_has_one_outcome, events_stand_at_their_lines,
+    scripts_read_again,
+};
+pub use read::read_script;
+pub use refusal::{Reason, Refusal, ScriptRefused};
+pub use write::write_script;
+
+#[cfg(test)]
+mod tests;

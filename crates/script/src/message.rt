@@ -1,0 +1,46 @@
+ghost use Rattle.std.specs.Prelude.{◌≡◌};
+ghost use Rattle.std.specs.List.{list_all};
+ghost use Rattle.script.specs.Reading.{Gives, hex_of, is_lower_digit};
+
+use crate::refusal::{Reason, Stop};
+use events::Body;
+use hex::FromHexError;
+use std::alloc::Global;
+
+/// The most digits of a message: two for each of 88 bytes.
+const DIGIT_LIMIT: usize = 176;
+
+fn are_lower_digits(word: &[u8]) -> bool
+    ensures { result ≡ list_all is_lower_digit word.now }
+{
+    for digit in word {
+        if !digit.is_ascii_digit() && !(*digit >= b'a' && *digit <= b'f') {
+            return false;
+        }
+    }
+    true
+}
+
+/// The bytes of a message that a word spells in hex.
+#[tactic(auto, unfolding(crate::specs::Reading::hex_of))]
+pub fn message_bytes(alloc: Global, word: &[u8]) -> Result<Body, Stop>
+    ensures { Gives result (hex_of word.now) }
+{
+    if word == b"-".as_slice() {
+        return Ok(Body::from(Vec::new(alloc)));
+    }
+    if !are_lower_digits(word) {
+        return Err(Stop::Refused(Reason::Form));
+    }
+    if word.is_empty() {
+        return Err(Stop::Refused(Reason::Form));
+    }
+    if word.len() > DIGIT_LIMIT {
+        return Err(Stop::Refused(Reason::Form));
+    }
+    match hex::decode(alloc, word) {
+        Ok(bytes) => Ok(Body::from(bytes)),
+        Err(FromHexError::OutOfMemory) => Err(Stop::OutOfMemory),
+        Err(_) => Err(Stop::Refused(Reason::Form)),
+    }
+}

@@ -1,0 +1,236 @@
+use crate::{Event, Reason, Refusal, ScriptRefused, read_script, write_script};
+use std::alloc::{AllocError, Global};
+use std::process::Abort;
+use std::test::Fail;
+
+const HEAD: &str =
+    "dss 1\nlevel U 0 -\nlevel S 2 a\nhost 1 U\nhost 2 U\nhost 5 S\nhost 6 S\nbegin\n";
+
+fn joined(alloc: Global, parts: &[&str]) -> Result<Vec<u8>, AllocError> {
+    let mut text = Vec::new(alloc);
+    for part in parts {
+        text.extend_from_slice(part.as_bytes())?;
+    }
+    Ok(text)
+}
+
+/// The first refusal of a text, or None where it is read.
+fn refusal_of(alloc: Global, text: &[u8]) -> Result<Option<Refusal>, AllocError> {
+    match read_script(alloc, text) {
+        Ok(_) => Ok(None),
+        Err(ScriptRefused::Refused(refusal)) => Ok(Some(refusal)),
+        Err(ScriptRefused::OutOfMemory) => Err(AllocError),
+    }
+}
+
+fn expect_refused(
+    rt: &impl Abort,
+    alloc: Global,
+    text: &[u8],
+    line: u32,
+    reason: Reason,
+) -> Result<(), AllocError> {
+    let refusal = refusal_of(alloc, text)?;
+    assert_eq!(rt; refusal, Some(Refusal { line, reason }), "at line {line}");
+    Ok(())
+}
+
+#[test]
+fn refuses_whole_texts(rt: HostRuntime) -> Result<(), Fail> {
+    for (text, line, reason) in [
+        ("", 1, Reason::End),
+        ("dss 1\n", 2, Reason::End),
+        ("dss 2\n", 1, Reason::Form),
+        ("dss 1", 1, Reason::Form),
+        ("dss 1\r\n", 1, Reason::Form),
+        ("dss 1\0\n", 1, Reason::Form),
+        ("dss 1 \n", 1, Reason::Form),
+        (" dss 1\n", 1, Reason::Form),
+        ("dss  1\n", 1, Reason::Form),
+        ("\n", 1, Reason::Form),
+        ("level U 0 -\n", 1, Reason::Place),
+        ("host 1 U\n", 1, Reason::Place),
+        ("begin\n", 1, Reason::Place),
+        ("send 1 2 00\n", 1, Reason::Place),
+        ("end\n", 1, Reason::Place),
+        ("dss 1\ndss 1\n", 2, Reason::Place),
+        ("dss 1\nhost 1 U\n", 2, Reason::Place),
+        ("dss 1\nbegin\n", 2, Reason::Place),
+        (
+            "dss 1\nlevel U 0 -\nhost 1 U\nlevel T 1 -\n",
+            4,
+            Reason::Place,
+        ),
+        ("dss 1\nlevel U 0 -\nbegin\nend\nx", 5, Reason::Form),
+        ("dss 1\nlevel U 0 -\nbegin\nend\n\n", 5, Reason::Form),
+        ("dss 1\nlevel U 0 -\nbegin\nend\nend\n", 5, Reason::Place),
+    ] {
+        expect_refused(&rt, rt.alloc(), text.as_bytes(), line, reason)?;
+    }
+    Ok(())
+}
+
+#[test]
+fn refuses_lines_above_begin(rt: HostRuntime) -> Result<(), Fail> {
+    for (line, reason) in [
+        ("level U 3 -", Reason::Twice),
+        ("level T 0 -", Reason::Twice),
+        ("level t 1 -", Reason::Form),
+        ("level 1T 1 -", Reason::Form),
+        ("level ABCDEFGHI 1 -", Reason::Form),
+        ("level \u{e9} 1 -", Reason::Form),
+        ("level T 8 -", Reason::Form),
+        ("level T 01 -", Reason::Form),
+        ("level T 1 ba", Reason::Form),
+        ("level T 1 aa", Reason::Form),
+        ("level T 1 q", Reason::Form),
+        ("level T 1 -a", Reason::Form),
+        ("level T 1", Reason::Form),
+        ("level T 1 ", Reason::Form),
+        ("level T 1 - -", Reason::Form),
+        ("host 0 U", Reason::Form),
+        ("host 251 U", Reason::Form),
+        ("host 01 U", Reason::Form),
+        ("host 18446744073709551617 U", Reason::Form),
+        ("host 1 u", Reason::Form),
+        ("host 1\tU", Reason::Form),
+        ("host 1 T", Reason::Name),
+        ("dss 1", Reason::Place),
+        ("send 1 1 00", Reason::Place),
+        ("end", Reason::Place),
+        ("begin 1", Reason::Form),
+        ("seal des", Reason::Form),
+        ("guard 0123456789abcdef 0123456789abcdef", Reason::Form),
+        ("store U true", Reason::Form),
+    ] {
+        let text = joined(rt.alloc(), &["dss 1\nlevel U 0 -\n", line, "\n"])?;
+        expect_refused(&rt, rt.alloc(), &text, 3, reason)?;
+    }
+    Ok(())
+}
+
+#[test]
+fn refuses_lines_behind_begin(rt: HostRuntime) -> Result<(), Fail> {
+    for (line, reason) in [
+        ("send 1 9 00", Reason::Name),
+        ("send 9 1 00", Reason::Name),
+        ("send 01 2 00", Reason::Form),
+        ("send 0 2 00", Reason::Form),
+        ("send 1 2 6A", Reason::Form),
+        ("send 1 2 6", Reason::Form),
+        ("send 1 2 ", Reason::Form),
+        ("send 1 2 --", Reason::Form),
+        ("send 1 2", Reason::Form),
+        ("send 1 S 00", Reason::Form),
+        ("deliver 1>2#0.64 to 2", Reason::Form),
+        ("deliver 1>2#0.00 to 2", Reason::Form),
+        ("deliver 1>2#4294967296.0 to 2", Reason::Form),
+        ("deliver 1>2#0 to 2", Reason::Form),
+        ("deliver 1>2#0.0.0 to 2", Reason::Form),
+        ("deliver 1>2#0.0 to 9", Reason::Name),
+        ("carry 1>2#01 to 2", Reason::Form),
+        ("carry 1>2#0 at 2", Reason::Form),
+        ("carry 1>2>5#0 to 2", Reason::Form),
+        ("carry 1>2#0 to 2\r", Reason::Form),
+        ("carry 9>2#0 to 2", Reason::Name),
+        ("carry 1>9#0 to 2", Reason::Name),
+        ("put 1 note 6162", Reason::Form),
+        ("", Reason::Form),
+        ("level T 1 -", Reason::Place),
+        ("host 9 X", Reason::Place),
+        ("begin", Reason::Place),
+    ] {
+        let text = joined(rt.alloc(), &[HEAD, line, "\nend\n"])?;
+        expect_refused(&rt, rt.alloc(), &text, 9, reason)?;
+    }
+    Ok(())
+}
+
+#[test]
+fn refuses_one_too_many(rt: HostRuntime) -> Result<(), Fail> {
+    let mut text = joined(rt.alloc(), &["dss 1\n"])?;
+    for rank in 0..2u8 {
+        for cats in ["-", "a", "b", "c", "d", "e", "f", "g"] {
+            let line = format!(in rt.alloc(); "level {}{} {} {}\n", "L", text.len(), rank, cats)?;
+            text.extend_from_slice(line.as_bytes())?;
+        }
+    }
+    let mut levels = joined(rt.alloc(), &["level L6 7 -\n"])?;
+    let mut first = text.clone()?;
+    first.extend_from_slice(&levels)?;
+    expect_refused(&rt, rt.alloc(), &first, 18, Reason::Twice)?;
+    levels = joined(rt.alloc(), &["level Z 7 -\n"])?;
+    let mut second = text.clone()?;
+    second.extend_from_slice(&levels)?;
+    expect_refused(&rt, rt.alloc(), &second, 18, Reason::Many)?;
+    for address in 1..65u8 {
+        let line = format!(in rt.alloc(); "host {} L6\n", address)?;
+        text.extend_from_slice(line.as_bytes())?;
+    }
+    let hosts = text.clone()?;
+    text.extend_from_slice(b"host 250 L6\n".as_slice())?;
+    expect_refused(&rt, rt.alloc(), &text, 82, Reason::Many)?;
+    let mut again = hosts.clone()?;
+    again.extend_from_slice(b"host 64 L6\n".as_slice())?;
+    expect_refused(&rt, rt.alloc(), &again, 82, Reason::Twice)?;
+    let mut full = hosts;
+    full.extend_from_slice(b"begin\nend\n".as_slice())?;
+    assert_eq!(rt; refusal_of(rt.alloc(), &full)?, None);
+    Ok(())
+}
+
+#[test]
+fn refuses_too_many_events_and_bytes(rt: HostRuntime) -> Result<(), Fail> {
+    let mut text = joined(rt.alloc(), &[HEAD])?;
+    for _ in 0..100_000u32 {
+        text.extend_from_slice(b"carry 1>2#0 to 2\n".as_slice())?;
+    }
+    let mut full = text.clone()?;
+    full.extend_from_slice(b"end\n".as_slice())?;
+    assert_eq!(rt; refusal_of(rt.alloc(), &full)?, None);
+    text.extend_from_slice(b"carry 1>2#0 to 2\n".as_slice())?;
+    expect_refused(&rt, rt.alloc(), &text, 100_009, Reason::Many)?;
+    let mut long = vec![in rt.alloc(); b' '; 16_777_216]?;
+    expect_refused(&rt, rt.alloc(), &long, 1, Reason::Form)?;
+    long.push(b' ')?;
+    expect_refused(&rt, rt.alloc(), &long, 0, Reason::Many)?;
+    Ok(())
+}
+
+#[test]
+fn writes_what_it_read(rt: HostRuntime) -> Result<(), Fail> {
+    for body in [
+        "",
+        "send 1 2 6869\ndeliver 1>2#0.0 to 2\n",
+        "send 1 2 -\ncarry 1>2#0 to 2\n",
+        "deliver 6>5#4294967295.63 to 1\n",
+        "send 5 6 0123456789abcdef0123456789abcdef0123456789abcdef0123456789abcdef0123456789abcdef0123456789abcdef0123456789abcdef0123456789abcdef0123456789abcdef0123456789abcdef0123456789abcdef\n",
+    ] {
+        let text = joined(rt.alloc(), &[HEAD, body, "end\n"])?;
+        let script = read_script(rt.alloc(), &text)?;
+        let again = write_script(rt.alloc(), &script)?;
+        assert_eq!(rt; again.as_slice(), text.as_slice());
+    }
+    Ok(())
+}
+
+#[test]
+fn reads_the_first_example(rt: HostRuntime) -> Result<(), Fail> {
+    let text = joined(
+        rt.alloc(),
+        &[HEAD, "send 1 2 6869\ndeliver 1>2#0.0 to 2\nend\n"],
+    )?;
+    let script = read_script(rt.alloc(), &text)?;
+    assert_eq!(rt; script.roster().level_count(), 2);
+    assert_eq!(rt; script.roster().host_count(), 4);
+    assert_eq!(rt; script.events().len(), 2);
+    assert_eq!(rt; script.line_of(1), 10);
+    match &script.events()[0] {
+        Event::Send { from, message, .. } => {
+            assert_eq!(rt; *from, 1);
+            assert_eq!(rt; message.bytes(), b"hi".as_slice());
+        }
+        _ => assert!(rt; false, "the first event is no send"),
+    }
+    Ok(())
+}
