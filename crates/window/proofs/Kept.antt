@@ -1,0 +1,132 @@
+-- What the places show, from the bytes and the marks that are kept.
+use Rattle.std.proofs.Common.{◌≡◌, ◌≢◌, ℕ, ◌+◌, ◌*◌, ◌<◌, ◌≤◌, List, [], ◌∷◌, ◌&&◌, length, take, get_or, set, replicate, Bool, true, false, Option, Some, None, is_some, refl, sym, ◌∙◌, ap, ◌⊎◌, inl, inr, arith, get_or-set_other, get_or-set_same}
+use Rattle.std.specs.Prelude.{◌==◌, not, unwrap_or, if◌then◌else◌}
+use Rattle.std.specs.List.{range_with_len, list_all, flat_map}
+use Rattle.std.proofs.lemmas.Bool.Decides.{nat_tests}
+use Rattle.std.proofs.lemmas.List.{get_or-replicate}
+use Rattle.std.proofs.lemmas.List.Folds.{list_all-map, flat_map-map}
+use Rattle.std.proofs.lemmas.List.FromFn.{get_or-map-range_with_len, length-map-range_with_len}
+use Rattle.frame.specs.Pieces.{PieceView, IsPiece, used_bytes, piece_bytes}
+use Rattle.window.specs.Places.{joined, nothing_held, has_room_for, with_piece, with_block, empty_count}
+use Rattle.window.specs.PlacesInside.{place_of, places_in}
+use Rattle.window.proofs.Filling.{map_set, all_none, empty_set}
+use Rattle.window.proofs.Blocks.{full_block, last_block, written, not_written, blocks_join}
+
+pub length_places : (held : List Bool) (m : List ℕ) (last : ℕ) → length (places_in held m last) ≡ last + 1
+length_places held m last = length-map-range_with_len (place_of held m) 0 (last + 1)
+
+pub get_place : (held : List Bool) (m : List ℕ) (last i : ℕ) → i ≤ last → get_or (places_in held m last) i None ≡ place_of held m i
+get_place held m last i le = get_or-map-range_with_len (place_of held m) 0 (last + 1) i i None (omega arith) (omega arith)
+
+pub nothing_kept : (m : List ℕ) (last : ℕ) → last ≤ 63 → places_in (replicate 64 false) m last ≡ nothing_held last
+nothing_kept m last le =
+    all_none (place_of (replicate 64 false) m) 0 (last + 1) (λ k lo hi. let e = get_or-replicate 64 k false false (omega arith) in rw e refl)
+
+some_of : (b : Bool) (bytes : List ℕ) → is_some (if b then Some bytes else None) ≡ b
+some_of true bytes = refl
+some_of false bytes = refl
+
+same_room : (n l : ℕ) (a b : Bool) → (n ≡ l → a ≡ b) → (n + 1 == l + 1 && not a) ≡ (n == l && not b)
+same_room n l a b same = grind (arith, nat_tests, same)
+
+pub room_kept : (held : List Bool) (m : List ℕ) (last : ℕ) (x : PieceView) → IsPiece x → has_room_for (places_in held m last) x ≡ (x.last == last && not (get_or held x.piece false))
+room_kept held m last x ok =
+    let n = length_places held m last in
+    rw n (same_room x.last last (is_some (get_or (places_in held m last) x.piece None)) (get_or held x.piece false)
+    (λ is. ap is_some (get_place held m last x.piece (omega (arith, ok.within))) ∙ some_of (get_or held x.piece false) (piece_bytes m x.piece)))
+
+cases : (n l : ℕ) → n ≤ l → (n ≡ l) ⊎ (n < l)
+cases n l le = grind arith
+
+-- the bytes of the piece that was put
+here_put : (s : List ℕ) (last tail : ℕ) (x : PieceView) → length s ≡ 5632 → last ≤ 63 → IsPiece x → x.last ≡ last → (x.piece ≡ last → tail ≡ x.used) → piece_bytes (take (88 * last + tail) (with_block s x.piece x.payload)) x.piece ≡ used_bytes x
+here_put s last tail x long le ok is here =
+    elim (cases x.piece last (omega (arith, ok.within))) [
+      | inl end ↦
+          let t = here end in
+          let short = ok.used in
+          let wide = ok.wide in
+          let f : 88 * last + tail ≡ 88 * x.piece + x.used = omega arith in
+          ap (λ n. piece_bytes (take n (with_block s x.piece x.payload)) x.piece) f
+          ∙ last_block (with_block s x.piece x.payload) x.piece x.used short
+          ∙ written s x.payload x.piece x.used (omega arith) (omega arith)
+      | inr mid ↦
+          let f = ok.full (omega arith) in
+          let wide = ok.wide in
+          full_block (with_block s x.piece x.payload) (88 * last + tail) x.piece (omega arith)
+          ∙ written s x.payload x.piece 88 (omega arith) (omega arith)
+          ∙ ap (λ c. take c x.payload) (sym f)
+    ]
+
+-- the bytes of the other pieces
+other_put : (s : List ℕ) (last tail tail' : ℕ) (x : PieceView) (k : ℕ) → length s ≡ 5632 → last ≤ 63 → tail ≤ 88 → IsPiece x → x.last ≡ last → (x.piece ≢ last → tail' ≡ tail) → k ≤ last → k ≢ x.piece → piece_bytes (take (88 * last + tail) s) k ≡ piece_bytes (take (88 * last + tail') (with_block s x.piece x.payload)) k
+other_put s last tail tail' x k long le short ok is elsewhere within ne =
+    let wide = ok.wide in
+    let inside : 88 * x.piece + 88 ≤ length s = omega (arith, ok.within) in
+    elim (cases k last within) [
+      | inl end ↦
+          let t = elsewhere (λ e. ne (end ∙ sym e)) in
+          let f : 88 * last + tail ≡ 88 * k + tail = omega arith in
+          let f' : 88 * last + tail' ≡ 88 * k + tail = omega arith in
+          ap (λ n. piece_bytes (take n s) k) f ∙ last_block s k tail short
+          ∙ sym (not_written s x.payload x.piece k tail wide inside short ne)
+          ∙ sym (last_block (with_block s x.piece x.payload) k tail short)
+          ∙ ap (λ n. piece_bytes (take n (with_block s x.piece x.payload)) k) (sym f')
+      | inr mid ↦
+          full_block s (88 * last + tail) k (omega arith)
+          ∙ sym (not_written s x.payload x.piece k 88 wide inside (omega arith) ne)
+          ∙ sym (full_block (with_block s x.piece x.payload) (88 * last + tail') k (omega arith))
+    ]
+
+-- a piece is put into its place
+pub put_kept : (held : List Bool) (s : List ℕ) (last tail tail' : ℕ) (x : PieceView) → length held ≡ 64 → length s ≡ 5632 → last ≤ 63 → tail ≤ 88 → IsPiece x → x.last ≡ last → (x.piece ≡ last → tail' ≡ x.used) → (x.piece ≢ last → tail' ≡ tail) → places_in (set held x.piece true) (take (88 * last + tail') (with_block s x.piece x.payload)) last ≡ with_piece (places_in held (take (88 * last + tail) s) last) x
+put_kept held s last tail tail' x marks long le short ok is here elsewhere =
+    let m = take (88 * last + tail) s in
+    let m' = take (88 * last + tail') (with_block s x.piece x.payload) in
+    let bytes : piece_bytes m' x.piece ≡ used_bytes x = here_put s last tail' x long le ok is here in
+    let lt : x.piece < length held = omega (arith, ok.within) in
+    let mark : get_or (set held x.piece true) x.piece false ≡ true = get_or-set_same held x.piece true false lt in
+    let e : 0 + x.piece ≡ x.piece = omega arith in
+    sym (map_set (place_of (set held x.piece true) m') (place_of held m) 0 (last + 1) x.piece (Some (used_bytes x)) (omega (arith, ok.within))
+    (ap (place_of (set held x.piece true) m') e ∙ rw mark (ap Some bytes))
+    (λ k lo hi ne.
+    let apart : k ≢ x.piece = λ same. ne (same ∙ sym e) in
+    let same_mark : get_or (set held x.piece true) k false ≡ get_or held k false = get_or-set_other held x.piece k true false apart in
+    let same_bytes : piece_bytes m k ≡ piece_bytes m' k = other_put s last tail tail' x k long le short ok is elsewhere (omega arith) apart in
+    rw (same_mark, same_bytes) refl))
+
+joined_alike : (f g : ℕ → List ℕ) (P : ℕ → Bool) (xs : List ℕ) → ((i : ℕ) → P i ≡ true → f i ≡ g i) → list_all P xs ≡ true → flat_map f xs ≡ flat_map g xs
+joined_alike f g P [] same all = refl
+joined_alike f g P (x ∷ xs) same all = grind (arith, nat_tests, same x, joined_alike f g P xs same)
+
+bytes_of : (b : Bool) (bytes : List ℕ) → is_some (if b then Some bytes else None) ≡ true → unwrap_or (if b then Some bytes else None) [] ≡ bytes
+bytes_of true bytes h = refl
+bytes_of false bytes h = cc
+
+-- where no place is empty, the places hold the message
+pub joined_kept : (held : List Bool) (m : List ℕ) (last : ℕ) → length m ≤ 88 * (last + 1) → list_all is_some (places_in held m last) ≡ true → joined (places_in held m last) ≡ m
+joined_kept held m last le all =
+    let e : 0 + (last + 1) ≡ last + 1 = omega arith in
+    flat_map-map (λ (bytes : Option (List ℕ)). unwrap_or bytes []) (place_of held m) (range_with_len 0 (last + 1))
+    ∙ joined_alike (λ i. unwrap_or (place_of held m i) []) (piece_bytes m) (λ i. is_some (place_of held m i)) (range_with_len 0 (last + 1))
+    (λ i some. bytes_of (get_or held i false) (piece_bytes m i) some)
+    (sym (list_all-map is_some (place_of held m) (range_with_len 0 (last + 1))) ∙ all)
+    ∙ blocks_join m (last + 1) 0 (omega arith)
+
+room_parts : (held : List Bool) (m : List ℕ) (last : ℕ) (x : PieceView) → IsPiece x → has_room_for (places_in held m last) x ≡ true → (x.last ≡ last) × (get_or held x.piece false ≡ false)
+room_parts held m last x ok room =
+    let both = sym (room_kept held m last x ok) ∙ room in
+    (grind (arith, nat_tests, both), grind (arith, nat_tests, both))
+
+-- a piece that has room is put into its place, and one place less is empty
+pub piece_put : (held : List Bool) (s : List ℕ) (last tail tail' : ℕ) (x : PieceView) → length held ≡ 64 → length s ≡ 5632 → last ≤ 63 → tail ≤ 88 → IsPiece x → has_room_for (places_in held (take (88 * last + tail) s) last) x ≡ true → (x.piece ≡ last → tail' ≡ x.used) → (x.piece ≢ last → tail' ≡ tail) → (places_in (set held x.piece true) (take (88 * last + tail') (with_block s x.piece x.payload)) last ≡ with_piece (places_in held (take (88 * last + tail) s) last) x) × (empty_count (with_piece (places_in held (take (88 * last + tail) s) last) x) + 1 ≡ empty_count (places_in held (take (88 * last + tail) s) last)) × (x.piece ≤ last)
+piece_put held s last tail tail' x marks long le short ok room here elsewhere =
+    let m = take (88 * last + tail) s in
+    let parts = room_parts held m last x ok room in
+    let within : x.piece ≤ last = omega (arith, ok.within, parts.0) in
+    let n = length_places held m last in
+    let free : place_of held m x.piece ≡ None = let f = parts.1 in rw f refl in (
+      put_kept held s last tail tail' x marks long le short ok parts.0 here elsewhere,
+      empty_set (places_in held m last) x.piece (used_bytes x) (omega (arith, n)) (get_place held m last x.piece within ∙ free),
+      within,
+    )

@@ -1,0 +1,4 @@
+pub mod Filling
+pub mod Blocks
+pub mod Kept
+pub mod Rule

@@ -1,0 +1,55 @@
+-- When a list of pieces of one sender gives a message. The list may hold any pieces at all; the newest comes first.
+use Rattle.std.specs.Prelude.{ℕ, ◌+◌, List, [], ◌∷◌, Bool, false, not, nat_lt, ◌==◌, ◌&&◌, Option, Some, None, if◌then◌else◌, unwrap_or}
+use Rattle.std.specs.List.{list_any, list_all, range_with_len, flat_map}
+use Rattle.frame.specs.Pieces.{PieceView, used_bytes}
+
+-- what an earlier piece gave, else what this one gives
+abbrev pub or_else : {A : Type 0} → Option A → Option A → Option A
+or_else (Some earlier) own = Some earlier
+or_else None own = own
+
+-- the last place of message j, as the first of its pieces has it
+abbrev pub last_of : List PieceView → ℕ → Option ℕ
+last_of [] j = None
+last_of (x ∷ h) j = or_else (last_of h j) (if x.message == j then Some x.last else None)
+
+-- whether a piece is of message j at place i, and has this last place
+abbrev pub is_at : ℕ → ℕ → ℕ → PieceView → Bool
+is_at j last i x = x.message == j && x.piece == i && x.last == last
+
+-- whether place i of message j is held
+abbrev pub is_held : List PieceView → ℕ → ℕ → ℕ → Bool
+is_held h j last i = list_any (is_at j last i) h
+
+-- the places of a message
+abbrev pub places_to : ℕ → List ℕ
+places_to last = range_with_len 0 (last + 1)
+
+abbrev pub is_whole_to : List PieceView → ℕ → Option ℕ → Bool
+is_whole_to h j None = false
+is_whole_to h j (Some last) = list_all (is_held h j last) (places_to last)
+
+-- whether there is a piece of message j, and all its places are held
+abbrev pub is_whole : List PieceView → ℕ → Bool
+is_whole h j = is_whole_to h j (last_of h j)
+
+-- whether there is a piece of a message greater than j
+abbrev pub has_later : List PieceView → ℕ → Bool
+has_later h j = list_any (λ x. nat_lt j x.message) h
+
+-- whether the next piece completes its message: it is whole now, was not before, and no later message has begun
+abbrev pub completes : List PieceView → PieceView → Bool
+completes h x = is_whole (x ∷ h) x.message && not (is_whole h x.message) && not (has_later h x.message)
+
+-- the bytes of the first piece at place i of message j
+abbrev pub bytes_at : List PieceView → ℕ → ℕ → ℕ → Option (List ℕ)
+bytes_at [] j last i = None
+bytes_at (x ∷ h) j last i = or_else (bytes_at h j last i) (if is_at j last i x then Some (used_bytes x) else None)
+
+abbrev pub body_to : List PieceView → ℕ → Option ℕ → List ℕ
+body_to h j None = []
+body_to h j (Some last) = flat_map (λ i. unwrap_or (bytes_at h j last i) []) (places_to last)
+
+-- the bytes of message j, joined by place
+abbrev pub body : List PieceView → ℕ → List ℕ
+body h j = body_to h j (last_of h j)

@@ -1,0 +1,13 @@
+//! Pieces of messages put together, for each partner by itself.
+#![tactic(auto)]
+
+mod places;
+mod reception;
+pub mod scan;
+mod window;
+
+pub use reception::Taken;
+pub use window::Window;
+
+#[cfg(test)]
+mod tests;
