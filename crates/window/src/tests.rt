@@ -18,6 +18,8 @@ const LONG: [u8; 89] = [0xaa; 89];
 
 const OTHER: [u8; 89] = [0xbb; 89];
 
+const FULL: [u8; 176] = [0xdd; 176];
+
 const LONGER: [u8; 177] = [0xcc; 177];
 
 const LAST_NUMBER: u32 = 4_294_967_295;
@@ -72,7 +74,7 @@ fn follow(alloc: Global, steps: &[Step]) -> Result<usize, AllocError> {
 
 #[test]
 fn messages_come_once_and_in_order(rt: HostRuntime) -> Result<(), Fail> {
-    let rows: [(&str, &[Step]); 7] = [
+    let rows: [(&str, &[Step]); 8] = [
         ("one piece", &[(0, &HI, 0, true)]),
         (
             "repeats",
@@ -85,6 +87,10 @@ fn messages_come_once_and_in_order(rt: HostRuntime) -> Result<(), Fail> {
                 (0, &LONG, 0, true),
                 (0, &LONG, 1, false),
             ],
+        ),
+        (
+            "two full pieces",
+            &[(0, &FULL, 1, false), (0, &FULL, 0, true)],
         ),
         (
             "an older message",
