@@ -8,8 +8,8 @@
 mod draws;
 mod work;
 
-use anyhow::Result;
 use std::env;
+use std::io::Result;
 use std::process::ExitCode;
 use work::{cases, chain, open, seal};
 

@@ -3,10 +3,10 @@
 ghost use Rattle.std.specs.Prelude.{◌≡◌, ◌%◌, ◌<◌, ◌≤◌};
 
 use crate::draws::{Checksum, Draws};
-use anyhow::Result;
 use des_cbc::{DesSeal, Schedule, cbc_decrypt, cbc_encrypt};
 use seal_core::{KeyPair, Seal};
 use std::alloc::{AllocError, Global};
+use std::io;
 
 /// The bytes that are enciphered at a time.
 const BUFFER: usize = 8192;
@@ -83,7 +83,7 @@ pub fn open(size: u64) -> u64 {
 }
 
 /// One case: what is made of a plain text of `len` bytes.
-fn print_case(rt: &impl Print, alloc: Global, draws: &mut Draws, len: usize) -> Result<()>
+fn print_case(rt: &impl Print, alloc: Global, draws: &mut Draws, len: usize) -> io::Result<()>
     requires some { 0 < len }
     requires whole { len % 8 ≡ 0 }
     requires fits { len ≤ 104 }
@@ -125,7 +125,7 @@ fn print_case(rt: &impl Print, alloc: Global, draws: &mut Draws, len: usize) -> 
 /// compute again. A line has the two keys, the nonce, the plain text, that text enciphered and
 /// deciphered in a chain under the first key from the nonce, the sealed text, and whether it opened
 /// to the nonce and the plain text.
-pub fn cases(rt: &impl Print, alloc: Global, size: u64, seed: u64) -> Result<()> {
+pub fn cases(rt: &impl Print, alloc: Global, size: u64, seed: u64) -> io::Result<()> {
     let mut draws = Draws::new(seed);
     for i in 0..size {
         print_case(rt, alloc, &mut draws, 8 * (1 + (i % 13) as usize))?;

@@ -47,48 +47,55 @@ impl Piece {
 
     /// The receiver's address, 0 for the manager unit.
     pub fn to(&self) -> u8
-        ensures { result ≡ self.now.to }
+        ensures to { result ≡ self.now.to }
+        ensures kept { IsPiece self.now }
     {
         self.to
     }
 
     /// The number of the message in its stream.
     pub fn message(&self) -> u32
-        ensures { result ≡ self.now.message }
+        ensures message { result ≡ self.now.message }
+        ensures kept { IsPiece self.now }
     {
         self.message
     }
 
     /// The number of this piece, from 0.
     pub fn piece(&self) -> u8
-        ensures { result ≡ self.now.piece }
+        ensures piece { result ≡ self.now.piece }
+        ensures kept { IsPiece self.now }
     {
         self.piece
     }
 
     /// The number of the message's last piece.
     pub fn last(&self) -> u8
-        ensures { result ≡ self.now.last }
+        ensures last { result ≡ self.now.last }
+        ensures kept { IsPiece self.now }
     {
         self.last
     }
 
     /// How many bytes of the payload are the message's.
     pub fn used(&self) -> u8
-        ensures { result ≡ self.now.used }
+        ensures used { result ≡ self.now.used }
+        ensures kept { IsPiece self.now }
     {
         self.used
     }
 
     pub fn partition(&self) -> u8
-        ensures { result ≡ self.now.partition }
+        ensures partition { result ≡ self.now.partition }
+        ensures kept { IsPiece self.now }
     {
         self.partition
     }
 
     /// The bytes, and zeros behind the used ones.
     pub fn payload(&self) -> &[u8; 88]
-        ensures { result.now ≡ self.now.payload }
+        ensures payload { result.now ≡ self.now.payload }
+        ensures kept { IsPiece self.now }
     {
         &self.payload
     }

@@ -4,7 +4,6 @@ use Rattle.std.proofs.Math.ListN.{get_or, set}
 use Rattle.frame.specs.Pieces.{PieceView}
 use Rattle.window.specs.ListRule.{completes, body}
 use Rattle.window.specs.Windows as windows
-use Rattle.window.specs.WindowView.{WindowView}
 use Rattle.host_side.specs.HostView.{HostView}
 use Rattle.host_side.specs.declared.host.Given.{Given}
 
@@ -44,7 +43,3 @@ out_after out h x = if completes h x then with_front out (body (x ∷ h) x.messa
 abbrev pub SameNames : HostView → HostView → Type 0
 SameNames old new =
     (new.address ≡ old.address) × (new.partition ≡ old.partition) × ((a : ℕ) → is_partner new a ≡ is_partner old a)
-
--- what is held of every other partner is as it was
-abbrev pub SameElsewhere : WindowView → WindowView → ℕ → Type 0
-SameElsewhere old new a = windows.SameElsewhere old new a

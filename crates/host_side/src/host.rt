@@ -1,8 +1,8 @@
 ghost use Rattle.std.specs.Prelude.{◌≡◌, ℕ, ◌≤◌, ◌<◌, ◌+◌, true, None, List, [], ◌∷◌, length, drop, IfOk, OnErr, IfSome, IfNone};
 ghost use Rattle.frame.specs.Pieces.{PieceView};
-ghost use Rattle.window.specs.Windows.{AreDifferent};
+ghost use Rattle.window.specs.Windows.{AreDifferent, SameElsewhere};
 ghost use Rattle.host_side.specs.Sending.{send_answer, first_number};
-ghost use Rattle.host_side.specs.Hosts.{is_partner, next_of, with_next, is_for, StandsFor, given_at, out_after, SameNames, SameElsewhere};
+ghost use Rattle.host_side.specs.Hosts.{is_partner, next_of, with_next, is_for, StandsFor, given_at, out_after, SameNames};
 ghost use Rattle.std.proofs.Math.ListN.{get_or};
 
 use frame::{MESSAGE_LIMIT, Piece, SendRefused};
@@ -120,7 +120,6 @@ impl HostSide {
     pub fn takes(&self, piece: &Piece) -> bool
         ensures { result ≡ is_for self.now piece.now }
     {
-        let _sender = piece.from();
         piece.to() == self.address
             && piece.partition() == self.partition
             && self.streams[usize::from(piece.from())].is_some()

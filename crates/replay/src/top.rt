@@ -14,12 +14,9 @@ use crate::command::{Command, command_of};
 use crate::owed::{Owed, Verdict, answer_to, refusal_owed};
 use crate::status::Status;
 use dss_io::{ReadStop, Sink, SinkStop, Source, read_all, write_all};
-use script::{Reason, Refusal};
+use script::{Reason, Refusal, TEXT_LIMIT};
 use std::alloc::{AllocError, Global};
 use std::thread::Threads;
-
-/// The most bytes of an input.
-const INPUT_LIMIT: usize = 16_777_216;
 
 /// The refusal of an input that is too long.
 const TOO_LONG: Refusal = Refusal {
@@ -85,7 +82,7 @@ fn carry_out<S: Source, K: Sink>(
     ensures write_fault { result ≡ Status.WriteFault → Rose (K.faults sink.old) (K.faults sink.new) }
     ensures used { result ≢ Status.Usage }
 {
-    match read_all(alloc, source, INPUT_LIMIT) {
+    match read_all(alloc, source, TEXT_LIMIT) {
         Ok(bytes) => answer(alloc, command, bytes, sink),
         Err(ReadStop::TooMany) => refuse_long(alloc, sink),
         Err(ReadStop::Fault) => Status::ReadFault,

@@ -19,7 +19,7 @@ pub use laws::{
     clean_texts_are_their_own, each_text_has_one_outcome, events_stand_at_their_lines,
     scripts_read_again,
 };
-pub use read::read_script;
+pub use read::{TEXT_LIMIT, read_script};
 pub use refusal::{Reason, Refusal, ScriptRefused};
 pub use write::write_script;
 

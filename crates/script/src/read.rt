@@ -12,7 +12,7 @@ use events::Script;
 use std::alloc::Global;
 
 /// The most bytes of a script's text.
-const TEXT_LIMIT: usize = 16_777_216;
+pub const TEXT_LIMIT: usize = 16_777_216;
 
 fn at_line(line: u32, stop: Stop) -> ScriptRefused
     ensures { result ≡ at_line line stop }

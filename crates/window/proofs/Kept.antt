@@ -35,37 +35,52 @@ room_kept held m last x ok =
     rw n (same_room x.last last (is_some (get_or (places_in held m last) x.piece None)) (get_or held x.piece false)
     (λ is. ap is_some (get_place held m last x.piece (omega (arith, ok.within))) ∙ some_of (get_or held x.piece false) (piece_bytes m x.piece)))
 
+-- the places that these bytes and marks show
+abbrev pub shown : List Bool → List ℕ → ℕ → ℕ → List (Option (List ℕ))
+shown held s last tail = places_in held (take (88 * last + tail) s) last
+
+-- a piece goes into the row of bytes, and `tail'` is the length of the last place after it
+pub record Putting (held : List Bool) (s : List ℕ) (last tail tail' : ℕ) (x : PieceView) : Type 0 where
+  pub marks : length held ≡ 64
+  pub row : length s ≡ 5632
+  pub last_place : last ≤ 63
+  pub short : tail ≤ 88
+  pub is_piece : IsPiece x
+  pub here : x.piece ≡ last → tail' ≡ x.used
+  pub elsewhere : x.piece ≢ last → tail' ≡ tail
+
 cases : (n l : ℕ) → n ≤ l → (n ≡ l) ⊎ (n < l)
 cases n l le = grind arith
 
 -- the bytes of the piece that was put
-here_put : (s : List ℕ) (last tail : ℕ) (x : PieceView) → length s ≡ 5632 → last ≤ 63 → IsPiece x → x.last ≡ last → (x.piece ≡ last → tail ≡ x.used) → piece_bytes (take (88 * last + tail) (with_block s x.piece x.payload)) x.piece ≡ used_bytes x
-here_put s last tail x long le ok is here =
-    elim (cases x.piece last (omega (arith, ok.within))) [
+here_put : {held : List Bool} (s : List ℕ) (last tail tail' : ℕ) (x : PieceView) → Putting held s last tail tail' x → x.last ≡ last →
+    piece_bytes (take (88 * last + tail') (with_block s x.piece x.payload)) x.piece ≡ used_bytes x
+here_put s last tail tail' x p is =
+    let wide = p.is_piece.wide in
+    elim (cases x.piece last (omega (arith, p.is_piece.within))) [
       | inl end ↦
-          let t = here end in
-          let short = ok.used in
-          let wide = ok.wide in
-          let f : 88 * last + tail ≡ 88 * x.piece + x.used = omega arith in
+          let t = p.here end in
+          let f : 88 * last + tail' ≡ 88 * x.piece + x.used = omega arith in
           ap (λ n. piece_bytes (take n (with_block s x.piece x.payload)) x.piece) f
-          ∙ last_block (with_block s x.piece x.payload) x.piece x.used short
-          ∙ written s x.payload x.piece x.used (omega arith) (omega arith)
+          ∙ last_block (with_block s x.piece x.payload) x.piece x.used p.is_piece.used
+          ∙ written s x.payload x.piece x.used (omega (arith, p.row, p.last_place)) (omega (arith, p.is_piece.used))
       | inr mid ↦
-          let f = ok.full (omega arith) in
-          let wide = ok.wide in
-          full_block (with_block s x.piece x.payload) (88 * last + tail) x.piece (omega arith)
-          ∙ written s x.payload x.piece 88 (omega arith) (omega arith)
+          let f = p.is_piece.full (omega arith) in
+          full_block (with_block s x.piece x.payload) (88 * last + tail') x.piece (omega arith)
+          ∙ written s x.payload x.piece 88 (omega (arith, p.row, p.last_place)) (omega arith)
           ∙ ap (λ c. take c x.payload) (sym f)
     ]
 
 -- the bytes of the other pieces
-other_put : (s : List ℕ) (last tail tail' : ℕ) (x : PieceView) (k : ℕ) → length s ≡ 5632 → last ≤ 63 → tail ≤ 88 → IsPiece x → x.last ≡ last → (x.piece ≢ last → tail' ≡ tail) → k ≤ last → k ≢ x.piece → piece_bytes (take (88 * last + tail) s) k ≡ piece_bytes (take (88 * last + tail') (with_block s x.piece x.payload)) k
-other_put s last tail tail' x k long le short ok is elsewhere within ne =
-    let wide = ok.wide in
-    let inside : 88 * x.piece + 88 ≤ length s = omega (arith, ok.within) in
+other_put : {held : List Bool} (s : List ℕ) (last tail tail' : ℕ) (x : PieceView) (k : ℕ) → Putting held s last tail tail' x → x.last ≡ last → k ≤ last → k ≢ x.piece →
+    piece_bytes (take (88 * last + tail) s) k ≡ piece_bytes (take (88 * last + tail') (with_block s x.piece x.payload)) k
+other_put s last tail tail' x k p is within ne =
+    let wide = p.is_piece.wide in
+    let short = p.short in
+    let inside : 88 * x.piece + 88 ≤ length s = omega (arith, p.is_piece.within, p.row, p.last_place) in
     elim (cases k last within) [
       | inl end ↦
-          let t = elsewhere (λ e. ne (end ∙ sym e)) in
+          let t = p.elsewhere (λ e. ne (end ∙ sym e)) in
           let f : 88 * last + tail ≡ 88 * k + tail = omega arith in
           let f' : 88 * last + tail' ≡ 88 * k + tail = omega arith in
           ap (λ n. piece_bytes (take n s) k) f ∙ last_block s k tail short
@@ -79,20 +94,22 @@ other_put s last tail tail' x k long le short ok is elsewhere within ne =
     ]
 
 -- a piece is put into its place
-pub put_kept : (held : List Bool) (s : List ℕ) (last tail tail' : ℕ) (x : PieceView) → length held ≡ 64 → length s ≡ 5632 → last ≤ 63 → tail ≤ 88 → IsPiece x → x.last ≡ last → (x.piece ≡ last → tail' ≡ x.used) → (x.piece ≢ last → tail' ≡ tail) → places_in (set held x.piece true) (take (88 * last + tail') (with_block s x.piece x.payload)) last ≡ with_piece (places_in held (take (88 * last + tail) s) last) x
-put_kept held s last tail tail' x marks long le short ok is here elsewhere =
+put_kept : (held : List Bool) (s : List ℕ) (last tail tail' : ℕ) (x : PieceView) → Putting held s last tail tail' x → x.last ≡ last →
+    shown (set held x.piece true) (with_block s x.piece x.payload) last tail' ≡ with_piece (shown held s last tail) x
+put_kept held s last tail tail' x p is =
     let m = take (88 * last + tail) s in
     let m' = take (88 * last + tail') (with_block s x.piece x.payload) in
-    let bytes : piece_bytes m' x.piece ≡ used_bytes x = here_put s last tail' x long le ok is here in
-    let lt : x.piece < length held = omega (arith, ok.within) in
+    let within = p.is_piece.within in
+    let bytes : piece_bytes m' x.piece ≡ used_bytes x = here_put s last tail tail' x p is in
+    let lt : x.piece < length held = omega (arith, within, p.marks, p.last_place) in
     let mark : get_or (set held x.piece true) x.piece false ≡ true = get_or-set_same held x.piece true false lt in
     let e : 0 + x.piece ≡ x.piece = omega arith in
-    sym (map_set (place_of (set held x.piece true) m') (place_of held m) 0 (last + 1) x.piece (Some (used_bytes x)) (omega (arith, ok.within))
+    sym (map_set (place_of (set held x.piece true) m') (place_of held m) 0 (last + 1) x.piece (Some (used_bytes x)) (omega (arith, within))
     (ap (place_of (set held x.piece true) m') e ∙ rw mark (ap Some bytes))
     (λ k lo hi ne.
     let apart : k ≢ x.piece = λ same. ne (same ∙ sym e) in
     let same_mark : get_or (set held x.piece true) k false ≡ get_or held k false = get_or-set_other held x.piece k true false apart in
-    let same_bytes : piece_bytes m k ≡ piece_bytes m' k = other_put s last tail tail' x k long le short ok is elsewhere (omega arith) apart in
+    let same_bytes : piece_bytes m k ≡ piece_bytes m' k = other_put s last tail tail' x k p is (omega arith) apart in
     rw (same_mark, same_bytes) refl))
 
 joined_alike : (f g : ℕ → List ℕ) (P : ℕ → Bool) (xs : List ℕ) → ((i : ℕ) → P i ≡ true → f i ≡ g i) → list_all P xs ≡ true → flat_map f xs ≡ flat_map g xs
@@ -118,15 +135,22 @@ room_parts held m last x ok room =
     let both = sym (room_kept held m last x ok) ∙ room in
     (grind (arith, nat_tests, both), grind (arith, nat_tests, both))
 
--- a piece that has room is put into its place, and one place less is empty
-pub piece_put : (held : List Bool) (s : List ℕ) (last tail tail' : ℕ) (x : PieceView) → length held ≡ 64 → length s ≡ 5632 → last ≤ 63 → tail ≤ 88 → IsPiece x → has_room_for (places_in held (take (88 * last + tail) s) last) x ≡ true → (x.piece ≡ last → tail' ≡ x.used) → (x.piece ≢ last → tail' ≡ tail) → (places_in (set held x.piece true) (take (88 * last + tail') (with_block s x.piece x.payload)) last ≡ with_piece (places_in held (take (88 * last + tail) s) last) x) × (empty_count (with_piece (places_in held (take (88 * last + tail) s) last) x) + 1 ≡ empty_count (places_in held (take (88 * last + tail) s) last)) × (x.piece ≤ last)
-piece_put held s last tail tail' x marks long le short ok room here elsewhere =
+-- What a piece that has room does: it is put into its place, and one place less is empty.
+pub record IsPut (held : List Bool) (s : List ℕ) (last tail tail' : ℕ) (x : PieceView) : Type 0 where
+  pub put : shown (set held x.piece true) (with_block s x.piece x.payload) last tail' ≡ with_piece (shown held s last tail) x
+  pub fewer : empty_count (with_piece (shown held s last tail) x) + 1 ≡ empty_count (shown held s last tail)
+  pub within : x.piece ≤ last
+
+pub piece_put : (held : List Bool) (s : List ℕ) (last tail tail' : ℕ) (x : PieceView) → Putting held s last tail tail' x →
+    has_room_for (shown held s last tail) x ≡ true → IsPut held s last tail tail' x
+piece_put held s last tail tail' x p room =
     let m = take (88 * last + tail) s in
-    let parts = room_parts held m last x ok room in
-    let within : x.piece ≤ last = omega (arith, ok.within, parts.0) in
+    let parts = room_parts held m last x p.is_piece room in
+    let within : x.piece ≤ last = omega (arith, p.is_piece.within, parts.0) in
     let n = length_places held m last in
-    let free : place_of held m x.piece ≡ None = let f = parts.1 in rw f refl in (
-      put_kept held s last tail tail' x marks long le short ok parts.0 here elsewhere,
-      empty_set (places_in held m last) x.piece (used_bytes x) (omega (arith, n)) (get_place held m last x.piece within ∙ free),
-      within,
-    )
+    let free : place_of held m x.piece ≡ None = let f = parts.1 in rw f refl in
+    record {
+      put = put_kept held s last tail tail' x p parts.0;
+      fewer = empty_set (places_in held m last) x.piece (used_bytes x) (omega (arith, n)) (get_place held m last x.piece within ∙ free);
+      within = within;
+    }

@@ -81,7 +81,6 @@ impl Places {
     pub fn has_room_for(&self, piece: &Piece) -> bool
         ensures { result ≡ has_room_for self.now piece.now }
     {
-        let _sender = piece.from();
         piece.last() == self.last && !self.held[usize::from(piece.piece())]
     }
 
@@ -90,7 +89,6 @@ impl Places {
         requires { has_room_for self.old piece.now ≡ true }
         ensures { self.new ≡ with_piece self.old piece.now }
     {
-        let _sender = piece.from();
         let place = usize::from(piece.piece());
         write_block(&mut self.bytes, place, piece.payload());
         self.tail = tail_after(self.tail, self.last, piece);

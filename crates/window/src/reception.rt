@@ -1,9 +1,9 @@
 ghost use Rattle.std.specs.Prelude.{◌≡◌, true, None, List, ◌∷◌, length, IfOk, IfSome, IsSomeAnd};
 ghost use Rattle.frame.specs.Pieces.{PieceView};
-ghost use Rattle.window.specs.Places.{has_room_for, with_piece};
+ghost use Rattle.window.specs.Places.{nothing_held, has_room_for, with_piece};
 ghost use Rattle.window.specs.Standing.{Holds, is_new, is_open, stage_after, answer_of, taken, waiting_of, waiting_after, IsShort};
 ghost use Rattle.window.specs.ListRule.{body};
-ghost use Rattle.window.specs.declared.reception.Stage.TheVariants.{Unheard};
+ghost use Rattle.window.specs.declared.reception.Stage.TheVariants.{Unheard, Open};
 
 use crate::places::Places;
 use frame::Piece;
@@ -70,22 +70,30 @@ impl Reception {
         }
     }
 
-    /// Puts a piece into its place.
+    /// Begins a piece's message in place of the one before.
+    fn begin(&mut self, piece: &Piece)
+        ensures stage { self.new.stage ≡ Open piece.now.message }
+        ensures places { self.new.places ≡ nothing_held piece.now.last }
+    {
+        self.places.begin(piece.last());
+        self.stage = Stage::Open(piece.message());
+    }
+
+    /// Puts a piece of the open message into its place.
     fn put(&mut self, piece: &Piece) -> Taken
-        requires { has_room_for self.old.places piece.now ≡ true }
+        requires open { self.old.stage ≡ Open piece.now.message }
+        requires room { has_room_for self.old.places piece.now ≡ true }
         ensures places { self.new.places ≡ with_piece self.old.places piece.now }
         ensures stage { self.new.stage ≡ stage_after self.new.places piece.now.message }
         ensures answer { result ≡ answer_of self.new.places }
         ensures small { IsShort result }
     {
         self.places.put(piece);
-        if self.places.is_whole() {
-            self.stage = Stage::Waiting(piece.message());
-            Taken::Complete(self.places.len())
-        } else {
-            self.stage = Stage::Open(piece.message());
-            Taken::Nothing
+        if !self.places.is_whole() {
+            return Taken::Nothing;
         }
+        self.stage = Stage::Waiting(piece.message());
+        Taken::Complete(self.places.len())
     }
 
     pub fn take(&mut self, piece: &Piece) -> Taken
@@ -94,12 +102,11 @@ impl Reception {
         ensures waiting { waiting_of self.new ≡ waiting_after piece.now result }
         ensures small { IsShort result }
     {
-        let _sender = piece.from();
-        if self.is_new(piece.message()) {
-            self.places.begin(piece.last());
+        if self.is_open(piece.message()) && self.places.has_room_for(piece) {
             return self.put(piece);
         }
-        if self.is_open(piece.message()) && self.places.has_room_for(piece) {
+        if self.is_new(piece.message()) {
+            self.begin(piece);
             return self.put(piece);
         }
         Taken::Nothing

@@ -15,7 +15,6 @@ fn last_of(heard: &[Piece], message: u32) -> Option<u8>
     match heard {
         [] => None,
         [newest, older @ ..] => {
-            let _sender = newest.from();
             let earlier = last_of(older, message);
             if earlier.is_some() {
                 earlier
@@ -89,7 +88,6 @@ fn append(bytes: &mut Vec<u8>, piece: Option<Piece>) -> Result<(), AllocError>
     ensures { OnOk result (bytes.new.items ≡ bytes.old.items ++ unwrap_or (bytes_in piece) []) }
 {
     if let Some(piece) = piece {
-        let _sender = piece.from();
         bytes.extend_from_slice(&piece.payload()[..usize::from(piece.used())])?;
     }
     Ok(())

@@ -1,106 +1,131 @@
-//! Takes the pieces of messages of 5,632 bytes and hands the messages out, and copies as many bytes plainly.
+//! Times windows. Takes the pieces of messages of 5,632 bytes and hands the messages out; copies the pieces to their
+//! places and the whole messages out, with no window; and copies each message once.
 //!
-//! `window_bench ROUNDS` prints a checksum of what came out, and the times on standard error.
+//! `window_bench ROUNDS` does this with few messages of one partner, with many of one, and with as many of 64 whose
+//! pieces come in turn. It prints sums of the last bytes that came out, and the times on standard error.
 #![tactic(auto)]
 
-ghost use Rattle.std.specs.Prelude.{◌≡◌, ◌≤◌, true, None, length, IfSome, IsTrue};
-ghost use Rattle.window.specs.Windows.{is_partner, waiting};
+ghost use Rattle.std.specs.Prelude.{◌≤◌};
 
-use frame::{MESSAGE_LIMIT, Piece, cut, pieces};
-use std::alloc::{AllocError, Global};
+mod copies;
+mod load;
+mod windows;
+
+use copies::{copy_bodies, copy_pieces};
+use load::{Load, Traffic};
 use std::env;
+use std::io::Result;
 use std::time::Instant;
-use window::{Taken, Window};
+use windows::{hear_all, open};
 
-/// The messages that one window takes.
-const MESSAGES: u32 = 16;
+/// A round takes 1,024 messages of each load.
+const LOADS: [Load; 3] = [
+    Load {
+        partners: 1,
+        messages: 16,
+        turns: 64,
+    },
+    Load {
+        partners: 1,
+        messages: 1024,
+        turns: 1,
+    },
+    Load {
+        partners: 64,
+        messages: 16,
+        turns: 1,
+    },
+];
 
-/// A piece of host 1's to host 2.
-fn piece(message: u32, body: &[u8], i: u8) -> Option<Piece>
-    ensures { IfSome result (λ piece. piece.from ≡ 1) }
-{
-    if body.len() > MESSAGE_LIMIT || i >= pieces(body.len()) {
-        return None;
-    }
-    Some(cut(1, 2, 0, message, body, i))
+/// How long some turns took, and the sum of the last bytes that came out.
+#[derive(Clone, Copy)]
+struct Total {
+    nanoseconds: u128,
+    sum: u64,
 }
 
-/// Takes a piece from host 1, and hands out the message that it completes.
-fn hear(window: &mut Window, piece: &Piece, out: &mut [u8; 5632])
-    requires partner { is_partner window.old 1 ≡ true }
-    requires idle { waiting window.old 1 ≡ None }
-    requires sender { piece.now.from ≡ 1 }
-    ensures partner { is_partner window.new 1 ≡ true }
-    ensures idle { waiting window.new 1 ≡ None }
-{
-    if let Taken::Complete(length) = window.take(1, piece) {
-        window.hand_out(1, &mut out[..usize::from(length)]);
-    }
-}
-
-/// Takes all these pieces from host 1, one after another.
-fn hear_all(window: &mut Window, heard: &[Piece], out: &mut [u8; 5632])
-    requires partner { is_partner window.old 1 ≡ true }
-    requires idle { waiting window.old 1 ≡ None }
-{
-    for piece in heard {
-        if piece.from() == 1 {
-            hear(window, piece, out);
+impl Total {
+    fn zero() -> Total {
+        Total {
+            nanoseconds: 0,
+            sum: 0,
         }
     }
-}
 
-fn copy_all(bodies: &[[u8; 5632]], out: &mut [u8; 5632]) {
-    for body in bodies {
-        out.copy_from_slice(body);
+    /// One turn more, which began at `start`.
+    fn add(&mut self, rt: &HostRuntime, start: Instant, out: &[u8; 5632]) -> Result<()> {
+        let nanoseconds = start.elapsed(rt)?.as_nanos();
+        self.nanoseconds = self.nanoseconds.saturating_add(nanoseconds);
+        self.sum = self.sum.wrapping_add(u64::from(out[5631]));
+        Ok(())
     }
 }
 
-/// The messages, and all their pieces in order. All bytes of a message are its number.
-fn messages(alloc: Global) -> Result<(Vec<[u8; 5632]>, Vec<Piece>), AllocError> {
-    let mut bodies = Vec::new(alloc);
-    let mut heard = Vec::new(alloc);
-    for message in 0..MESSAGES {
-        let body = [message as u8; 5632];
-        push_pieces(&mut heard, message, &body)?;
-        bodies.push(body)?;
-    }
-    Ok((bodies, heard))
+#[derive(Clone, Copy)]
+struct Totals {
+    windows: Total,
+    pieces: Total,
+    bodies: Total,
 }
 
-/// Appends the pieces of a message.
-fn push_pieces(heard: &mut Vec<Piece>, message: u32, body: &[u8]) -> Result<(), AllocError> {
-    for place in 0..64u8 {
-        if let Some(piece) = piece(message, body, place) {
-            heard.push(piece)?;
-        }
+impl Totals {
+    /// Takes and copies all messages once more.
+    fn turn(&mut self, rt: &HostRuntime, load: Load, traffic: &Traffic) -> Result<()>
+        requires { load.partners ≤ 64 }
+    {
+        let mut window = open(rt.alloc(), load.partners)?;
+        let mut rows = vec![in rt.alloc(); [0u8; 5632]; usize::from(load.partners)]?;
+        let mut out = [0u8; 5632];
+        let start = Instant::now(rt)?;
+        hear_all(&mut window, &traffic.heard, load.partners, &mut out);
+        self.windows.add(rt, start, &out)?;
+        let start = Instant::now(rt)?;
+        copy_pieces(&mut rows, &traffic.heard, &mut out);
+        self.pieces.add(rt, start, &out)?;
+        let start = Instant::now(rt)?;
+        copy_bodies(&traffic.bodies, &mut out);
+        self.bodies.add(rt, start, &out)
     }
-    Ok(())
 }
 
-fn main(rt: HostRuntime) -> anyhow::Result<()> {
-    let alloc = rt.alloc();
-    let rounds: u32 = match env::args(&rt)?.nth(1) {
-        None => 10,
-        Some(word) => word.as_str().parse()?,
+fn measure(rt: &HostRuntime, load: Load, rounds: u32) -> Result<Totals>
+    requires { load.partners ≤ 64 }
+{
+    let traffic = Traffic::of(rt.alloc(), load)?;
+    let mut totals = Totals {
+        windows: Total::zero(),
+        pieces: Total::zero(),
+        bodies: Total::zero(),
     };
-    let (bodies, heard) = messages(alloc)?;
-    let mut out = [0u8; 5632];
-    let mut sum = 0u64;
-    let mut taking = 0u128;
-    let mut copying = 0u128;
-    for _ in 0..rounds {
-        let mut window = Window::open(alloc, &[1])?;
-        let start = Instant::now(&rt)?;
-        hear_all(&mut window, &heard, &mut out);
-        taking = taking.saturating_add(start.elapsed(&rt)?.as_nanos());
-        sum = sum.wrapping_add(u64::from(out[5631]));
-        let start = Instant::now(&rt)?;
-        copy_all(&bodies, &mut out);
-        copying = copying.saturating_add(start.elapsed(&rt)?.as_nanos());
-        sum = sum.wrapping_add(u64::from(out[5631]));
+    for _ in 0..rounds.saturating_mul(load.turns) {
+        totals.turn(rt, load, &traffic)?;
     }
-    println!(rt; "{sum}")?;
-    eprintln!(rt; "take and hand out: {taking} ns, plain copy: {copying} ns")?;
+    Ok(totals)
+}
+
+/// The first argument, or 10.
+fn rounds(rt: &HostRuntime) -> Result<u32> {
+    let word = env::args(rt)?.nth(1);
+    Ok(word.and_then(|x| x.as_str().parse().ok()).unwrap_or(10))
+}
+
+fn main(rt: HostRuntime) -> Result<()> {
+    let rounds = rounds(&rt)?;
+    for load in LOADS {
+        let Totals {
+            windows,
+            pieces,
+            bodies,
+        } = measure(&rt, load, rounds)?;
+        println!(rt; "{} {} {}", windows.sum, pieces.sum, bodies.sum)?;
+        eprintln!(rt;
+            "partners: {}, messages of each: {}, take and hand out: {} ns, pieces and messages: {} ns, messages: {} ns",
+            load.partners,
+            load.messages,
+            windows.nanoseconds,
+            pieces.nanoseconds,
+            bodies.nanoseconds
+        )?;
+    }
     Ok(())
 }
