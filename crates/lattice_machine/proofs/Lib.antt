@@ -2,4 +2,5 @@ mod Arrivals
 mod Bools
 mod Giving
 mod LowPart
+mod Order
 mod Steps

@@ -61,7 +61,7 @@ sent_low roster level [] s r within = refl
 sent_low roster level (e ∷ past) s r within = grind (arith, sent_low roster level past s r within, no_message roster level e s r, append-nil)
 
 -- between parties that are no partners nothing is sent
-nothing_sent : (roster : RosterView) (past : List Event) (s r : Party) → is_partner roster s r ≡ false → sent roster s r past ≡ []
+pub nothing_sent : (roster : RosterView) (past : List Event) (s r : Party) → is_partner roster s r ≡ false → sent roster s r past ≡ []
 nothing_sent roster [] s r apart = refl
 nothing_sent roster (Send from to message ∷ past) s r apart = grind (arith, nat_tests, nothing_sent roster past s r apart)
 nothing_sent roster (Arrive stream message piece at ∷ past) s r apart = grind (arith, nat_tests, nothing_sent roster past s r apart)

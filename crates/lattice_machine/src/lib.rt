@@ -7,7 +7,9 @@ mod laws;
 mod line;
 mod slow;
 
-pub use laws::{arrived_by_an_event, gives_what_it_names, only_low_events_count};
+pub use laws::{
+    arrived_by_an_event, gives_what_it_names, messages_are_given_in_order, only_low_events_count,
+};
 pub use line::OutLine;
 pub use slow::told;
 

@@ -1,69 +1,42 @@
--- What is due to the host at a place.
-use Rattle.std.proofs.Common.{◌≡◌, ℕ, zero, suc, ◌+◌, ◌-◌, ◌<◌, ◌≤◌, List, [], ◌∷◌, ◌++◌, length, Option, Some, refl, sym, ◌∙◌, ap, subst, append-nil, arith}
-use Rattle.std.specs.Prelude.{slice_get, map}
-use Rattle.std.specs.List.{AllByRecursion, flat_map, range_with_len}
+-- What is due to the host of an address.
+use Rattle.std.proofs.Common.{◌≡◌, ℕ, zero, suc, ◌+◌, ◌-◌, ◌≤◌, List, [], ◌∷◌, ◌++◌, Some, true, refl, sym, ◌∙◌, ap, subst, append-nil, arith}
+use Rattle.std.specs.Prelude.{find, is_some, ◌==◌}
+use Rattle.std.specs.List.{flat_map, range_with_len}
 use Rattle.std.specs.Option.{option_map}
+use Rattle.std.proofs.lemmas.Bool.Decides.{nat_tests}
 use Rattle.std.proofs.lemmas.Grind.{flat_map-append}
-use Rattle.std.proofs.lemmas.Option.{slice_get-map, same_Some}
-use Rattle.levels.specs.declared.level.Level.{Level}
-use Rattle.levels.specs.declared.level.Party.{Party}
+use Rattle.levels.specs.declared.level.Partition.{Partition}
 use Rattle.levels.specs.declared.level.Party.TheVariants.{Host}
-use Rattle.levels.specs.declared.rows.LevelRow.{LevelRow}
 use Rattle.levels.specs.declared.rows.HostRow.{HostRow}
-use Rattle.levels.specs.Rosters.{RosterView, host_row, level_at, level_of}
-use Rattle.levels.specs.Kept.{IsRoster, IsHostRow}
-use Rattle.events.specs.declared.event.Event.{Event}
+use Rattle.levels.specs.Rosters.{RosterView, host_row, partition_of}
 use Rattle.events.specs.ScriptView.{ScriptView}
-use Rattle.events.specs.Scripts.{IsScript}
+use Rattle.events.specs.Scripts.{is_known}
 use Rattle.lattice_machine.specs.declared.line.OutLine.{OutLine}
-use Rattle.lattice_machine.specs.Low.{low}
-use Rattle.lattice_machine.specs.Told.{told, told_within}
 use Rattle.lattice_machine.specs.Text.{host_text, due_at, text_to}
-use Rattle.replay.proofs.Places.{IsPlace}
+use Rattle.engine.specs.ReportView.{ReportView}
+use Rattle.engine.specs.Reports.{lines_of}
+use Rattle.replay.specs.Due.{IsReport}
 
--- the law of the low part, as the machine's crate states it
-abbrev OnlyLowCounts : Type 0
-OnlyLowCounts = (roster : RosterView) (level : Level) (events : List Event) (r : Party) → level_of roster r ≡ Some level → told roster events r ≡ told roster (low roster level events) r
+abbrev pub row_of : ℕ → Partition → HostRow
+row_of address partition = record { address = address; partition = partition }
 
-there_is : {X : Type 0} (xs : List X) (i : ℕ) → i < length xs → (x : X) × (slice_get xs i ≡ Some x)
-there_is [] i lt = absurd (omega (arith, lt))
-there_is (x ∷ xs) zero lt = (x, refl)
-there_is (x ∷ xs) (suc i) lt = there_is xs i (omega (arith, lt))
+-- the row that is found has the address
+row_found : (rows : List HostRow) (address : ℕ) (partition : Partition) → option_map (λ (r : HostRow). r.partition) (find (λ r. r.address == address) rows) ≡ Some partition
+    → find (λ r. r.address == address) rows ≡ Some (row_of address partition)
+row_found [] address partition h = cc
+row_found (row ∷ rows) address partition h = grind (arith, nat_tests, row_found rows address partition)
 
-within_at : (levels : ℕ) (rows : List HostRow) (i : ℕ) (row : HostRow) → AllByRecursion (IsHostRow levels) rows → slice_get rows i ≡ Some row → row.partition.0 < levels
-within_at levels [] i row h there = cc
-within_at levels (r ∷ rows) zero row h there = subst (λ (x : HostRow). x.partition.0 < levels) (same_Some r row there) h.0.partition
-within_at levels (r ∷ rows) (suc i) row h there = within_at levels rows i row h.1 there
-
--- a host of a roster has a level
-has_level : (roster : RosterView) (i : ℕ) (row : HostRow) → IsRoster roster → slice_get roster.hosts i ≡ Some row
-    → (level : Level) × (level_at roster (Some row.partition) ≡ Some level)
-has_level roster i row h there =
-    let l = there_is roster.levels row.partition.0 (within_at (length roster.levels) roster.hosts i row h.hosts there) in
-    (l.0.level, ap (option_map (λ (r : LevelRow). r.level)) l.1)
-
--- a host's lines on the low part are its lines
-pub lines_within : (roster : RosterView) (events : List Event) (address : ℕ) (level : Level) → OnlyLowCounts → level_of roster (Host address) ≡ Some level
-    → told_within roster events (Host address) (level_of roster (Host address)) ≡ told roster events (Host address)
-lines_within roster events address level law is =
-    ap (told_within roster events (Host address)) is ∙ sym (law roster level events (Host address) is)
-
--- what is due to the host at a place
-pub due_is : (script : ScriptView) (address i : ℕ) → OnlyLowCounts → IsScript script → (place : IsPlace script.roster address i)
-    → due_at script (host_row script.roster address) ≡ host_text script.roster place.row (told script.roster script.events (Host place.row.address))
-due_is script address i law kept place =
-    let row = place.row in
-    let level = has_level script.roster i row kept.roster place.there in
-    let own : host_row script.roster row.address ≡ Some row = ap (host_row script.roster) place.address_is ∙ place.found in
-    let is : level_of script.roster (Host row.address) ≡ Some level.0 = ap (λ (o : Option HostRow). level_at script.roster (option_map (λ (r : HostRow). r.partition) o)) own ∙ level.1 in
-    ap (due_at script) place.found ∙ ap (host_text script.roster row) (lines_within script.roster script.events row.address level.0 law is)
-
--- the lines at a place of a report
-pub reported : (roster : RosterView) (events : List Event) (report : List (List OutLine)) (i : ℕ) (row : HostRow) (lines : List OutLine)
-    → report ≡ map (λ (r : HostRow). told roster events (Host r.address)) roster.hosts → slice_get roster.hosts i ≡ Some row → slice_get report i ≡ Some lines
-    → lines ≡ told roster events (Host row.address)
-reported roster events report i row lines is there read =
-    same_Some lines _ (sym read ∙ ap (λ (ls : List (List OutLine)). slice_get ls i) is ∙ slice_get-map (λ (r : HostRow). told roster events (Host r.address)) roster.hosts i ∙ ap (option_map (λ (r : HostRow). told roster events (Host r.address))) there)
+-- what a report has of a host, under the heading of a roster that was read, is due to it
+pub reported : (report : ReportView) (read : RosterView) (address : ℕ) (partition : Partition) (lines : List OutLine) → IsReport report
+    → read ≡ report.script.roster → partition_of read (Host address) ≡ Some partition → lines ≡ lines_of report address
+    → host_text read (row_of address partition) lines ≡ due_at report.script (host_row report.script.roster address)
+reported report read address partition lines told_all same is lines_are =
+    let roster = report.script.roster in
+    let own : partition_of roster (Host address) ≡ Some partition = subst (λ (r : RosterView). partition_of r (Host address) ≡ Some partition) same is in
+    let known : is_known roster (Host address) ≡ true = ap is_some own in
+    ap (λ (r : RosterView). host_text r (row_of address partition) lines) same
+    ∙ ap (host_text roster (row_of address partition)) (lines_are ∙ told_all address known)
+    ∙ sym (ap (due_at report.script) (row_found roster.hosts address partition own))
 
 range_more : (a n : ℕ) → range_with_len a (suc n) ≡ range_with_len a n ++ (a + n) ∷ []
 range_more a zero = ap (λ k. k ∷ []) (let e : a ≡ a + 0 = omega arith in e)

@@ -1,9 +1,3 @@
-mod Places
-mod Maps
-mod Follows
-mod Handing
-mod Standing
-mod Idle
 mod Due
 mod Owing
 mod Ends

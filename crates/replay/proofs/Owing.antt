@@ -1,21 +1,14 @@
 -- The status and the text that are due.
 use Rattle.std.proofs.Common.{◌≡◌, ℕ, List, sym, ◌∙◌, ap, subst}
 use Rattle.std.specs.Prelude.{Ok}
-use Rattle.script.specs.declared.refusal.Refusal.{Refusal}
 use Rattle.events.specs.ScriptView.{ScriptView}
-use Rattle.script.specs.Reasons.{FirstRefusal}
 use Rattle.script.specs.Answers.{AnswersText}
 use Rattle.replay.specs.declared.command.Command.{Command}
 use Rattle.replay.specs.declared.owed.Verdict.{Verdict}
 use Rattle.replay.specs.declared.owed.Verdict.TheVariants as verdict
-use Rattle.replay.specs.Due.{IsDue, text_for, refused_line}
+use Rattle.replay.specs.Due.{IsDue, text_for}
 
 pub due_fine : (command : Command) (bytes : List ℕ) (v : Verdict) (text : List ℕ) (script : ScriptView) → AnswersText bytes (Ok script) → v ≡ verdict.Fine → text ≡ text_for command script
     → IsDue command bytes v text
 due_fine command bytes v text script h is t =
     subst (λ (x : Verdict). IsDue command bytes x text) (sym is) (h.0, t ∙ ap (text_for command) h.1)
-
-pub due_refused : (command : Command) (bytes : List ℕ) (v : Verdict) (text : List ℕ) (refusal : Refusal) → FirstRefusal bytes refusal → v ≡ verdict.Refused refusal → text ≡ refused_line refusal
-    → IsDue command bytes v text
-due_refused command bytes v text refusal h is t =
-    subst (λ (x : Verdict). IsDue command bytes x text) (sym is) (h, t)

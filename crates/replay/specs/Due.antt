@@ -1,15 +1,21 @@
 -- What a call of the program owes for its words and its input.
-use Rattle.std.specs.Prelude.{◌≡◌, ◌⊎◌, ℕ, List, [], ◌∷◌, length, codes, Option, Some, None, if◌then◌else◌}
+use Rattle.std.specs.Prelude.{◌≡◌, ◌⊎◌, ℕ, List, [], ◌∷◌, length, codes, true, Option, Some, None, if◌then◌else◌}
 use Rattle.std.specs.Str.{bytes_eq}
 use Rattle.std.specs.Fmt.{decimal}
 use Rattle.std.specs.Io.KnownBytes.{Keeps, Appends}
 use Rattle.dss_io.specs.Writing.{AppendsProperPrefix}
+use Rattle.levels.specs.declared.level.Party.TheVariants.{Host}
 use Rattle.events.specs.ScriptView.{ScriptView}
+use Rattle.events.specs.Scripts.{is_known}
 use Rattle.script.specs.declared.refusal.Refusal.{Refusal}
 use Rattle.script.specs.declared.refusal.Reason.{Reason}
 use Rattle.script.specs.declared.refusal.Reason.TheVariants as reason
 use Rattle.script.specs.Reasons.{FirstRefusal, IsClean, script_of}
+use Rattle.levels.specs.Rosters.{level_of}
+use Rattle.lattice_machine.specs.Told.{told_within}
 use Rattle.lattice_machine.specs.Text.{line, text}
+use Rattle.engine.specs.ReportView.{ReportView}
+use Rattle.engine.specs.Reports.{lines_of}
 use Rattle.replay.specs.declared.command.Command.{Command}
 use Rattle.replay.specs.declared.command.Command.TheVariants.{Replay, Check}
 use Rattle.replay.specs.declared.owed.Verdict.{Verdict}
@@ -42,6 +48,11 @@ abbrev pub check_line : ScriptView → List ℕ
 check_line script = line
     (codes "ok" ∷ codes "levels" ∷ decimal (length script.roster.levels) ∷ codes "hosts" ∷ decimal (length script.roster.hosts)
     ∷ codes "store" ∷ decimal 0 ∷ codes "events" ∷ decimal (length script.events) ∷ [])
+
+-- a report has of each host of its script what the lattice machine tells it on the events at or below its level
+abbrev pub IsReport : ReportView → Type 0
+IsReport report =
+    (a : ℕ) → is_known report.script.roster (Host a) ≡ true → lines_of report a ≡ told_within report.script.roster report.script.events (Host a) (level_of report.script.roster (Host a))
 
 -- what is written of a script: by `replay` what the lattice machine tells each host
 abbrev pub text_for : Command → ScriptView → List ℕ

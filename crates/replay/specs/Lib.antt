@@ -1,4 +1,2 @@
-pub mod UnitState
-pub mod Units
 pub mod Due
 pub mod Status

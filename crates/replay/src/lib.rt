@@ -2,12 +2,10 @@
 #![tactic(auto)]
 
 mod command;
-mod engine;
 mod owed;
 mod print;
 mod status;
 mod top;
-mod unit;
 
 pub use status::Status;
 pub use top::run;

@@ -7,10 +7,12 @@ ghost use Rattle.script.specs.Plain.{IsPlain};
 ghost use Rattle.std.specs.List.{AllByRecursion};
 
 use crate::command::Command;
-use crate::{engine, print};
+use crate::print;
+use engine::Engine;
 use events::push_number;
 use script::{Reason, Refusal, Script, ScriptRefused, read_script};
 use std::alloc::{AllocError, Global};
+use std::thread::Threads;
 
 /// How many answers of the store a script plans: none yet.
 const STORE_ANSWERS: u32 = 0;
@@ -74,21 +76,26 @@ fn check_line(alloc: Global, script: &Script) -> Result<Vec<u8>, AllocError>
     Ok(line)
 }
 
-fn replay_text(alloc: Global, script: &Script) -> Result<Vec<u8>, AllocError>
-    requires { AllByRecursion IsPlain script.now.events }
-    ensures { IfOk result (λ written. written.items ≡ text_for Replay script.now) }
+fn replay_text<R: Threads>(rt: &R, alloc: Global, script: Script) -> Result<Vec<u8>, AllocError>
+    requires { AllByRecursion IsPlain script.events }
+    ensures { IfOk result (λ written. written.items ≡ text_for Replay script) }
 {
-    let report = engine::run(alloc, script)?;
-    print::text(alloc, script, &report)
+    let report = Engine::open(alloc, script)?.run(rt, alloc)?;
+    print::text(alloc, &report)
 }
 
-fn text_for(alloc: Global, command: Command, script: &Script) -> Result<Vec<u8>, AllocError>
-    requires { AllByRecursion IsPlain script.now.events }
-    ensures { IfOk result (λ written. written.items ≡ text_for command script.now) }
+fn text_for<R: Threads>(
+    rt: &R,
+    alloc: Global,
+    command: Command,
+    script: Script,
+) -> Result<Vec<u8>, AllocError>
+    requires { AllByRecursion IsPlain script.events }
+    ensures { IfOk result (λ written. written.items ≡ text_for command script) }
 {
     match command {
-        Command::Replay => replay_text(alloc, script),
-        Command::Check => check_line(alloc, script),
+        Command::Replay => replay_text(rt, alloc, script),
+        Command::Check => check_line(alloc, &script),
     }
 }
 
@@ -101,23 +108,33 @@ pub fn refusal_owed(alloc: Global, refusal: Refusal) -> Result<Owed, AllocError>
     Ok(Owed { verdict, text })
 }
 
-fn script_owed(alloc: Global, command: Command, script: &Script) -> Result<Owed, AllocError>
-    requires { AllByRecursion IsPlain script.now.events }
-    ensures { IfOk result (λ owed. (owed.verdict ≡ Fine) × (owed.text.items ≡ text_for command script.now)) }
+fn script_owed<R: Threads>(
+    rt: &R,
+    alloc: Global,
+    command: Command,
+    script: Script,
+) -> Result<Owed, AllocError>
+    requires { AllByRecursion IsPlain script.events }
+    ensures { IfOk result (λ owed. (owed.verdict ≡ Fine) × (owed.text.items ≡ text_for command script)) }
 {
-    let text = text_for(alloc, command, script)?;
+    let text = text_for(rt, alloc, command, script)?;
     let verdict = Verdict::Fine;
     Ok(Owed { verdict, text })
 }
 
 /// What is due for an input.
-pub fn answer_to(alloc: Global, command: Command, bytes: Vec<u8>) -> Result<Owed, AllocError>
+pub fn answer_to<R: Threads>(
+    rt: &R,
+    alloc: Global,
+    command: Command,
+    bytes: Vec<u8>,
+) -> Result<Owed, AllocError>
     ensures { IfOk result (λ owed. IsDue command bytes.items owed.verdict owed.text.items) }
 {
     match read_script(alloc, &bytes) {
         Ok(script) => {
             drop(bytes);
-            script_owed(alloc, command, &script)
+            script_owed(rt, alloc, command, script)
         }
         Err(ScriptRefused::Refused(refusal)) => refusal_owed(alloc, refusal),
         Err(ScriptRefused::OutOfMemory) => Err(AllocError),

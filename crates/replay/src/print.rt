@@ -1,14 +1,14 @@
-ghost use Rattle.std.specs.Prelude.{◌≡◌, ◌++◌, ◌<◌, ◌≤◌, length, map, OnOk, IfOk, Some, slice_get};
+ghost use Rattle.std.specs.Prelude.{◌≡◌, ◌++◌, ◌<◌, OnOk, IfOk};
 ghost use Rattle.std.specs.List.{flat_map};
-ghost use Rattle.levels.specs.declared.level.Party.TheVariants.{Host, Manager};
+ghost use Rattle.levels.specs.declared.level.Party.TheVariants.{Manager};
 ghost use Rattle.levels.specs.Rosters.{host_row};
 ghost use Rattle.events.specs.Words.{party_word};
-ghost use Rattle.lattice_machine.specs.Told.{told};
 ghost use Rattle.lattice_machine.specs.Text.{refusal_word, line_text, heading, host_text, due_at, text_to, text};
 ghost use Rattle.lattice_machine.specs.declared.line.OutLine.TheVariants.{Sent, Refused, From};
+ghost use Rattle.replay.specs.Due.{IsReport};
 
-use crate::engine::{Report, place_of};
-use events::{Body, Script, push_hex, push_number};
+use engine::Report;
+use events::{Body, push_hex, push_number};
 use frame::SendRefused;
 use lattice_machine::OutLine;
 use levels::{Partition, Party, Roster};
@@ -152,47 +152,43 @@ fn push_host(
 fn push_host_at(
     alloc: Global,
     out: &mut Vec<u8>,
-    script: &Script,
     report: &Report,
     address: u8,
 ) -> Result<(), AllocError>
-    requires { report.now ≡ map (λ row. told script.now.roster script.now.events (Host row.address)) script.now.roster.hosts }
-    ensures { OnOk result (out.new.items ≡ out.old.items ++ due_at script.now (host_row script.now.roster address)) }
+    requires { IsReport report.now }
+    ensures { OnOk result (out.new.items ≡ out.old.items ++ due_at report.now.script (host_row report.now.script.roster address)) }
 {
-    // What the host was told in the whole run is what the events at or below its level tell it.
-    lattice_machine::only_low_events_count();
-    let roster = script.roster();
-    let Some(place) = place_of(roster, address) else {
+    let roster = report.script().roster();
+    let Some(partition) = roster.partition_of(Party::Host(address)) else {
         return Ok(());
     };
-    let (_, partition) = roster.host_at(place as u8);
     push_host(
         alloc,
         out,
         roster,
         address,
         partition,
-        report.lines_at(place),
+        report.lines_of(address),
     )
 }
 
 /// What is due to the hosts of the addresses from 1 to the last.
-fn text_to(alloc: Global, script: &Script, report: &Report, last: u8) -> Result<Vec<u8>, AllocError>
+fn text_to(alloc: Global, report: &Report, last: u8) -> Result<Vec<u8>, AllocError>
     requires last { last < 255 }
-    requires report { report.now ≡ map (λ row. told script.now.roster script.now.events (Host row.address)) script.now.roster.hosts }
-    ensures { IfOk result (λ written. written.items ≡ text_to script.now last) }
+    requires report { IsReport report.now }
+    ensures { IfOk result (λ written. written.items ≡ text_to report.now.script last) }
 {
     let mut out = Vec::new(alloc);
     for address in 1..last + 1 {
-        push_host_at(alloc, &mut out, script, report, address)?;
+        push_host_at(alloc, &mut out, report, address)?;
     }
     Ok(out)
 }
 
 /// The text of a run: what each host was told, in rising order of address.
-pub fn text(alloc: Global, script: &Script, report: &Report) -> Result<Vec<u8>, AllocError>
-    requires { report.now ≡ map (λ row. told script.now.roster script.now.events (Host row.address)) script.now.roster.hosts }
-    ensures { IfOk result (λ written. written.items ≡ text script.now) }
+pub fn text(alloc: Global, report: &Report) -> Result<Vec<u8>, AllocError>
+    requires { IsReport report.now }
+    ensures { IfOk result (λ written. written.items ≡ text report.now.script) }
 {
-    text_to(alloc, script, report, LAST_ADDRESS)
+    text_to(alloc, report, LAST_ADDRESS)
 }

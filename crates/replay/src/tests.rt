@@ -30,6 +30,23 @@ fn words(alloc: Global, parts: &[&str]) -> Result<Vec<String>, AllocError> {
 }
 
 /// Asks over objects that never fail, and compares the status and what is written.
+fn expect_bytes<R: Threads + Abort>(
+    rt: &R,
+    alloc: Global,
+    asked: &[&str],
+    input: &[u8],
+    status: Status,
+    written: &[u8],
+) -> Result<(), AllocError> {
+    let mut source = SureSource::new(alloc, input)?;
+    let mut sink = SureSink::new(alloc);
+    let words = words(alloc, asked)?;
+    let answer = run(rt, alloc, &words, &mut source, &mut sink);
+    assert_eq!(rt; answer, status);
+    assert!(rt; sink.contents() == written);
+    Ok(())
+}
+
 fn expect<R: Threads + Abort>(
     rt: &R,
     alloc: Global,
@@ -38,16 +55,7 @@ fn expect<R: Threads + Abort>(
     status: Status,
     written: &str,
 ) -> Result<(), AllocError> {
-    let mut source = SureSource::new(alloc, input)?;
-    let mut sink = SureSink::new(alloc);
-    let words = words(alloc, asked)?;
-    let answer = run(rt, alloc, &words, &mut source, &mut sink);
-    assert_eq!(rt; answer, status);
-    assert!(rt;
-        sink.contents() == written.as_bytes(),
-        "should be {written}"
-    );
-    Ok(())
+    expect_bytes(rt, alloc, asked, input, status, written.as_bytes())
 }
 
 #[test]
@@ -87,6 +95,113 @@ fn tells_each_host_what_it_is_to_be_told(rt: HostRuntime) -> Result<(), Fail> {
         let input = joined(rt.alloc(), &[HEAD, events, "end\n"])?;
         expect(&rt, rt.alloc(), &["replay"], &input, Status::Fine, told)?;
     }
+    Ok(())
+}
+
+/// A message in hex: so many bytes aa.
+fn message_of(alloc: Global, count: usize) -> Result<String, AllocError> {
+    let mut hex = String::new(alloc);
+    for _ in 0..count {
+        hex.push_str("aa")?;
+    }
+    Ok(hex)
+}
+
+/// Host 1 sends a message of so many bytes, and then events happen. Host 1 is told of its sends; host 2 is given the message
+/// or not, and then other lines.
+type Sending<'a> = (usize, &'a str, &'a str, bool, &'a str);
+
+fn expect_together<R: Threads + Abort>(
+    rt: &R,
+    alloc: Global,
+    sending: Sending,
+) -> Result<(), AllocError> {
+    let (count, events, own, gives, other) = sending;
+    let hex = message_of(alloc, count)?;
+    let input = joined(
+        alloc,
+        &[HEAD, "send 1 2 ", hex.as_str(), "\n", events, "end\n"],
+    )?;
+    let given = joined(alloc, &["from 1 ", hex.as_str(), "\n"])?;
+    let mut told = joined(alloc, &["host 1 U\n", own, "host 2 U\n"])?;
+    if gives {
+        told.extend_from_slice(&given)?;
+    }
+    told.extend_from_slice(other.as_bytes())?;
+    told.extend_from_slice(b"host 5 S\nhost 6 S\n".as_slice())?;
+    expect_bytes(rt, alloc, &["replay"], &input, Status::Fine, &told)
+}
+
+#[test]
+fn puts_messages_together(rt: HostRuntime) -> Result<(), Fail> {
+    let rows: [Sending; 6] = [
+        (89, "deliver 1>2#0.1 to 2\n", "sent 2 0\n", false, ""),
+        (
+            89,
+            "deliver 1>2#0.1 to 2\ndeliver 1>2#0.0 to 2\n",
+            "sent 2 0\n",
+            true,
+            "",
+        ),
+        (
+            176,
+            "deliver 1>2#0.2 to 2\ndeliver 1>2#0.1 to 2\n",
+            "sent 2 0\n",
+            false,
+            "",
+        ),
+        (
+            176,
+            "deliver 1>2#0.2 to 2\ndeliver 1>2#0.1 to 2\ndeliver 1>2#0.0 to 2\n",
+            "sent 2 0\n",
+            true,
+            "",
+        ),
+        (
+            89,
+            "send 1 2 02\ndeliver 1>2#0.0 to 2\ndeliver 1>2#1.0 to 2\ndeliver 1>2#0.1 to 2\n",
+            "sent 2 0\nsent 2 1\n",
+            false,
+            "from 1 02\n",
+        ),
+        (
+            5632,
+            "carry 1>2#0 to 2\ncarry 1>2#0 to 2\n",
+            "sent 2 0\n",
+            true,
+            "",
+        ),
+    ];
+    for row in rows {
+        expect_together(&rt, rt.alloc(), row)?;
+    }
+    Ok(())
+}
+
+#[test]
+fn a_longer_message_is_refused(rt: HostRuntime) -> Result<(), Fail> {
+    let long = message_of(rt.alloc(), 5633)?;
+    let hex = message_of(rt.alloc(), 5632)?;
+    let input = joined(
+        rt.alloc(),
+        &[
+            HEAD,
+            "send 1 2 ",
+            long.as_str(),
+            "\nsend 1 2 ",
+            hex.as_str(),
+            "\ncarry 1>2#0 to 2\nend\n",
+        ],
+    )?;
+    let told = joined(
+        rt.alloc(),
+        &[
+            "host 1 U\nrefused 2 toolong\nsent 2 0\nhost 2 U\nfrom 1 ",
+            hex.as_str(),
+            "\nhost 5 S\nhost 6 S\n",
+        ],
+    )?;
+    expect_bytes(&rt, rt.alloc(), &["replay"], &input, Status::Fine, &told)?;
     Ok(())
 }
 

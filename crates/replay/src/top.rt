@@ -46,11 +46,17 @@ fn deliver<K: Sink>(sink: &mut K, owed: Owed) -> Status
 }
 
 /// Answers an input that was read.
-fn answer<K: Sink>(alloc: Global, command: Command, bytes: Vec<u8>, sink: &mut K) -> Status
+fn answer<R: Threads, K: Sink>(
+    rt: &R,
+    alloc: Global,
+    command: Command,
+    bytes: Vec<u8>,
+    sink: &mut K,
+) -> Status
     ensures answer { Delivers (IsDue command bytes.items) result (K.written sink.old) (K.written sink.new) }
     ensures fault { result ≡ Status.WriteFault → Rose (K.faults sink.old) (K.faults sink.new) }
 {
-    match answer_to(alloc, command, bytes) {
+    match answer_to(rt, alloc, command, bytes) {
         Ok(owed) => deliver(sink, owed),
         Err(_) => Status::OutOfMemory,
     }
@@ -68,7 +74,8 @@ fn refuse_long<K: Sink>(alloc: Global, sink: &mut K) -> Status
 }
 
 /// Does a command over a source and a sink.
-fn carry_out<S: Source, K: Sink>(
+fn carry_out<R: Threads, S: Source, K: Sink>(
+    rt: &R,
     alloc: Global,
     command: Command,
     source: &mut S,
@@ -83,7 +90,7 @@ fn carry_out<S: Source, K: Sink>(
     ensures used { result ≢ Status.Usage }
 {
     match read_all(alloc, source, TEXT_LIMIT) {
-        Ok(bytes) => answer(alloc, command, bytes, sink),
+        Ok(bytes) => answer(rt, alloc, command, bytes, sink),
         Err(ReadStop::TooMany) => refuse_long(alloc, sink),
         Err(ReadStop::Fault) => Status::ReadFault,
         Err(ReadStop::OutOfMemory) => Status::OutOfMemory,
@@ -134,7 +141,7 @@ pub fn run<R: Threads, S: Source, K: Sink>(
         (result ≡ Status.OutOfMemory) ⊎ ((owed : Verdict) × ((result ≡ status_of owed) × WritesAll (IsDue command bytes) owed (K.written sink.old) (K.written sink.new))) }
 {
     match command_of(words) {
-        Some(command) => carry_out(alloc, command, source, sink),
+        Some(command) => carry_out(rt, alloc, command, source, sink),
         None => Status::Usage,
     }
 }

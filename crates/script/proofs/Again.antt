@@ -176,7 +176,7 @@ party_fits roster (Manager partition) rows known plain = absurd plain
 event_fits : (roster : RosterView) (event : Event) → AllByRecursion (IsHostRow (length roster.levels)) roster.hosts → IsEvent roster event → IsPlain event → EventFits (event_said roster event)
 event_fits roster (Send from to message) rows good plain =
     let known = both (is_known roster (Host from)) (is_known roster to) good.named in
-    (known_range roster from rows known.0, party_fits roster to rows known.1 plain.1, (good.fits, plain.2))
+    (known_range roster from rows known.0, party_fits roster to rows known.1 plain.1, good.fits)
 event_fits roster (Arrive stream message piece at) rows good plain =
     let all = both (is_known roster stream.from && is_known roster stream.to) (is_known roster at) good.named in
     let ends = both (is_known roster stream.from) (is_known roster stream.to) all.0 in

@@ -8,6 +8,7 @@ use Rattle.std.proofs.lemmas.Bool.{cases_Bool}
 use Rattle.std.proofs.lemmas.List.Elements.{All-append, All-cons, All-nil}
 use Rattle.std.proofs.lemmas.List.Splits.{slice_split_at, slice_split_none, join_with_byte-slice_split}
 use Rattle.std.proofs.lemmas.Slice.Eq.{bytes_eq-Decides}
+use Rattle.hex.specs.Hex.{IsBytes}
 use Rattle.script.specs.declared.line.EventWords.{EventWords}
 use Rattle.script.specs.declared.line.EventWords.TheVariants as said
 use Rattle.script.specs.declared.line.Line.{Line}
@@ -16,12 +17,11 @@ use Rattle.script.specs.Spelling.{line_words, line_text}
 use Rattle.script.specs.Reading.{◌>>=◌, number_of, exactly, as_one, as_two, as_three, nothing, one, two, three, version_of, level_of, host_of, send_of, deliver_of, carry_of, FormReader, forms, read_by, form_of, line_of, words}
 use Rattle.script.specs.Stages.{HasRanges}
 use Rattle.script.proofs.Tools.{bind_some, some_same, IsInk, ink_lacks}
-use Rattle.script.proofs.HexWords.{IsMessage}
 use Rattle.script.proofs.Spellings.{IsWord, InRange, IsName, AreCats, PartyFits, MessageFits, PieceFits, numbers, names, categories, messages, fixed, parties, message_words, piece_words}
 
 -- what an event line can say
 abbrev pub EventFits : EventWords → Type 0
-EventFits (said.Send from to message) = InRange 1 250 from × PartyFits to × IsMessage message
+EventFits (said.Send from to message) = InRange 1 250 from × PartyFits to × IsBytes message
 EventFits (said.Deliver stream message piece at) = PieceFits (stream, (message, piece)) × PartyFits at
 EventFits (said.Carry stream message at) = MessageFits (stream, message) × PartyFits at
 

@@ -1,9 +1,9 @@
 -- Messages and their hex digits.
-use Rattle.std.proofs.Common.{zero, suc, ◌≡◌, ◌≢◌, ℕ, ◌+◌, ◌*◌, ◌/◌, ◌%◌, ◌<◌, ◌≤◌, Bool, true, false, not, eqb, ltb, leb, ◌&&◌, ◌||◌, List, [], ◌∷◌, length, Option, Some, None, Result, Ok, Err, refl, sym, ap, subst, ◌∙◌, arith, inl, inr}
+use Rattle.std.proofs.Common.{zero, suc, ◌≡◌, ◌≢◌, ℕ, ◌+◌, ◌*◌, ◌/◌, ◌%◌, ◌<◌, Bool, true, false, not, eqb, ltb, ◌&&◌, ◌||◌, List, [], ◌∷◌, length, Option, Some, None, Result, Ok, Err, refl, sym, ap, subst, ◌∙◌, arith, inl, inr}
 use Rattle.std.specs.Prelude.{codes, slice_index, unwrap_or}
 use Rattle.std.specs.List.{list_all}
 use Rattle.std.specs.Str.{bytes_eq}
-use Rattle.std.proofs.lemmas.Bool.{cases_lt, cases_Bool, eqb-true, lt-ltb, le-leb}
+use Rattle.std.proofs.lemmas.Bool.{cases_lt, cases_Bool, eqb-true, lt-ltb}
 use Rattle.std.proofs.lemmas.Bool.Decides.{nat_tests}
 use Rattle.std.proofs.lemmas.Slice.Eq.{bytes_eq-Decides}
 use Rattle.hex.specs.declared.error.FromHexError.{FromHexError}
@@ -103,29 +103,23 @@ long_hex : (bytes : List ℕ) → 0 < length bytes → hex_word bytes ≡ encode
 long_hex [] h = absurd (omega arith)
 long_hex (byte ∷ bytes) h = refl
 
--- a message is bytes, of which there are at most 88
-abbrev pub IsMessage : List ℕ → Type 0
-IsMessage bytes = IsBytes bytes × (length bytes ≤ 88)
-
-pub hex_takes : (word bytes : List ℕ) → hex_of word ≡ Some bytes → (word ≡ hex_word bytes) × IsMessage bytes
+pub hex_takes : (word bytes : List ℕ) → hex_of word ≡ Some bytes → (word ≡ hex_word bytes) × IsBytes bytes
 unfolding hex_of
 hex_takes word bytes e =
     elim (cases_Bool (bytes_eq word (codes "-"))) [
       | inl is ↦
           let dash = (bytes_eq-Decides word (codes "-")).0 is in
           let none : [] ≡ bytes = some_same [] bytes (rw is at e) in
-          subst (λ (x : List ℕ). (word ≡ hex_word x) × IsMessage x) none (dash, (λ i. omega arith, omega arith))
+          subst (λ (x : List ℕ). (word ≡ hex_word x) × IsBytes x) none (dash, λ i. omega arith)
       | inr not ↦
           let e' = rw not at e in
-          let g = guard_other (list_all is_lower_digit word && ltb 0 (length word) && leb (length word) 176) (decoded (decode_of word)) bytes e' in
-          let most = both (list_all is_lower_digit word && ltb 0 (length word)) (leb (length word) 176) g.0 in
-          let some = both (list_all is_lower_digit word) (ltb 0 (length word)) most.0 in
+          let g = guard_other (list_all is_lower_digit word && ltb 0 (length word)) (decoded (decode_of word)) bytes e' in
+          let some = both (list_all is_lower_digit word) (ltb 0 (length word)) g.0 in
           let d = some_decoded (decode_of word) bytes g.1 in
           let ok = decode_of-ok word bytes d in
           let long : 0 < length word = grind (arith, nat_tests) in
-          let short : length word ≤ 176 = grind (arith, nat_tests) in
           let back = encoded_again 0 word bytes some.0 (sym (decode_of-even word ok.0) ∙ d) in
-          (sym back ∙ sym (long_hex bytes (omega (arith, ok.2))), (ok.3, omega (arith, ok.2)))
+          (sym back ∙ sym (long_hex bytes (omega (arith, ok.2))), ok.3)
     ]
 
 unequal : (a b : List ℕ) → length a ≢ length b → bytes_eq a b ≡ false
@@ -135,17 +129,16 @@ unequal a b ne =
       | inr not ↦ not
     ]
 
-pub hex_again : (bytes : List ℕ) → IsMessage bytes → hex_of (hex_word bytes) ≡ Some bytes
+pub hex_again : (bytes : List ℕ) → IsBytes bytes → hex_of (hex_word bytes) ≡ Some bytes
 unfolding hex_of
 hex_again [] fits = refl
 hex_again (byte ∷ bytes) fits =
     let len = length-encode_with lower_digits (byte ∷ bytes) in
     let other = unequal (encode_lower (byte ∷ bytes)) (codes "-") (λ e. absurd (omega arith)) in
-    let low = encoded_lower (byte ∷ bytes) fits.0 in
+    let low = encoded_lower (byte ∷ bytes) fits in
     let long = lt-ltb 0 (length (encode_lower (byte ∷ bytes))) (omega arith) in
-    let short = le-leb (length (encode_lower (byte ∷ bytes))) 176 (omega (arith, fits.1)) in
-    rw (other, low, long, short, decode_of-encode_lower (byte ∷ bytes) fits.0) refl
+    rw (other, low, long, decode_of-encode_lower (byte ∷ bytes) fits) refl
 
-pub hex_ink : (bytes : List ℕ) → IsMessage bytes → IsInk (hex_word bytes)
+pub hex_ink : (bytes : List ℕ) → IsBytes bytes → IsInk (hex_word bytes)
 hex_ink [] fits = refl
-hex_ink (byte ∷ bytes) fits = weaker is_lower_digit is_ink (λ c h. grind (arith, nat_tests)) (encode_lower (byte ∷ bytes)) (encoded_lower (byte ∷ bytes) fits.0)
+hex_ink (byte ∷ bytes) fits = weaker is_lower_digit is_ink (λ c h. grind (arith, nat_tests)) (encode_lower (byte ∷ bytes)) (encoded_lower (byte ∷ bytes) fits)

@@ -24,7 +24,7 @@ IfSomePlain None = Unit {0}
 IfSomePlain (Some event) = IsPlain event
 
 plain_send : (roster : RosterView) (from : ℕ) (to : PartyWord) (message : List ℕ) → EventFits (said.Send from to message) → IfSomePlain (event_named roster (said.Send from to message))
-plain_send roster from (Address address) message fits = (omega (arith, fits.0.1), omega (arith, fits.1.1), fits.2.1)
+plain_send roster from (Address address) message fits = (omega (arith, fits.0.1), omega (arith, fits.1.1))
 plain_send roster from (Name level) message fits = absurd fits.1
 
 plain_deliver : (roster : RosterView) (from to at : PartyWord) (message piece : ℕ) → PartyFits from → PartyFits to → PartyFits at → IfSomePlain (event_named roster (said.Deliver (record { from = from; to = to }) message piece at))

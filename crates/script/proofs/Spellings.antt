@@ -10,6 +10,7 @@ use Rattle.std.proofs.lemmas.List.Splits.{slice_split_at, slice_split_none, join
 use Rattle.std.proofs.lemmas.Bool.{eq-eqb}
 use Rattle.std.proofs.lemmas.Bool.Decides.{nat_tests}
 use Rattle.std.proofs.lemmas.Slice.Eq.{bytes_eq-Decides}
+use Rattle.hex.specs.Hex.{IsBytes}
 use Rattle.levels.specs.Names.{is_level_name, is_name_mark, is_upper}
 use Rattle.script.specs.declared.line.PartyWord.{PartyWord}
 use Rattle.script.specs.declared.line.PartyWord.TheVariants.{Address, Name}
@@ -20,7 +21,7 @@ use Rattle.script.specs.Reading.{◌>>=◌, number_of, name_of, cats_of, party_o
 use Rattle.script.proofs.Tools.{bind_some, guard_some, both, some_same, weaker, is_ink, IsInk, Lacks, lacks}
 use Rattle.script.proofs.Numbers.{number_takes, number_again, decimal_digits}
 use Rattle.script.proofs.Letters.{cats_takes, cats_again, cats_ink}
-use Rattle.script.proofs.HexWords.{IsMessage, hex_takes, hex_again, hex_ink}
+use Rattle.script.proofs.HexWords.{hex_takes, hex_again, hex_ink}
 
 -- how the good values of a type are spelled and read
 pub record IsWord {A : Type 0} (spell : A → List ℕ) (Good : A → Type 0) (read : List ℕ → Option A) : Type 0 where
@@ -66,7 +67,7 @@ AreCats cats = cats < 2 ^ 16
 pub categories : IsWord cats_word AreCats cats_of
 categories = record { takes = cats_takes; again = cats_again; ink = λ cats fits. cats_ink cats }
 
-pub messages : IsWord hex_word IsMessage hex_of
+pub messages : IsWord hex_word IsBytes hex_of
 messages = record { takes = hex_takes; again = hex_again; ink = hex_ink }
 
 pub fixed : {A : Type 0} (text : List ℕ) (x : A) → IsInk text → IsWord (λ (y : A). text) (λ y. x ≡ y) (exactly text x)

@@ -1,5 +1,5 @@
 -- What today's lines can say.
-use Rattle.std.specs.Prelude.{◌≡◌, ◌<◌, ◌≤◌, length}
+use Rattle.std.specs.Prelude.{◌≡◌, ◌<◌}
 use Rattle.std.specs.List.{AllByRecursion}
 use Rattle.levels.specs.declared.level.Party.{Party}
 use Rattle.levels.specs.declared.level.Party.TheVariants.{Host, Manager}
@@ -13,9 +13,9 @@ abbrev pub IsHost : Party → Type 0
 IsHost (Host address) = address < 256
 IsHost (Manager partition) = ⊥
 
--- all parties of an event are hosts, and a message has at most 88 bytes
+-- all parties of an event are hosts
 abbrev pub IsPlain : Event → Type 0
-IsPlain (Send from to message) = IsHost (Host from) × IsHost to × (length message ≤ 88)
+IsPlain (Send from to message) = IsHost (Host from) × IsHost to
 IsPlain (Arrive stream message piece at) = IsHost stream.from × IsHost stream.to × IsHost at
 IsPlain (Carry stream message at) = IsHost stream.from × IsHost stream.to × IsHost at
 

@@ -97,11 +97,11 @@ abbrev pub decoded : Result (List ℕ) FromHexError → Option (List ℕ)
 decoded (Ok bytes) = Some bytes
 decoded (Err e) = None
 
--- the bytes of a message, of which there are at most 88
+-- the bytes of a message
 unfoldable pub hex_of : List ℕ → Option (List ℕ)
 hex_of word =
     if bytes_eq word (codes "-") then Some []
-    else if list_all is_lower_digit word && nat_lt 0 (length word) && nat_le (length word) 176 then decoded (decode_of word)
+    else if list_all is_lower_digit word && nat_lt 0 (length word) then decoded (decode_of word)
     else None
 
 -- one word that is the given one

@@ -7,9 +7,6 @@ use events::Body;
 use hex::FromHexError;
 use std::alloc::Global;
 
-/// The most digits of a message: two for each of 88 bytes.
-const DIGIT_LIMIT: usize = 176;
-
 fn are_lower_digits(word: &[u8]) -> bool
     ensures { result ≡ list_all is_lower_digit word.now }
 {
@@ -33,9 +30,6 @@ pub fn message_bytes(alloc: Global, word: &[u8]) -> Result<Body, Stop>
         return Err(Stop::Refused(Reason::Form));
     }
     if word.is_empty() {
-        return Err(Stop::Refused(Reason::Form));
-    }
-    if word.len() > DIGIT_LIMIT {
         return Err(Stop::Refused(Reason::Form));
     }
     match hex::decode(alloc, word) {

@@ -204,7 +204,7 @@ fn writes_what_it_read(rt: HostRuntime) -> Result<(), Fail> {
         "send 1 2 6869\ndeliver 1>2#0.0 to 2\n",
         "send 1 2 -\ncarry 1>2#0 to 2\n",
         "deliver 6>5#4294967295.63 to 1\n",
-        "send 5 6 0123456789abcdef0123456789abcdef0123456789abcdef0123456789abcdef0123456789abcdef0123456789abcdef0123456789abcdef0123456789abcdef0123456789abcdef0123456789abcdef0123456789abcdef\n",
+        "send 5 6 0123456789abcdef0123456789abcdef0123456789abcdef0123456789abcdef0123456789abcdef0123456789abcdef0123456789abcdef0123456789abcdef0123456789abcdef0123456789abcdef0123456789abcdef00\n",
     ] {
         let text = joined(rt.alloc(), &[HEAD, body, "end\n"])?;
         let script = read_script(rt.alloc(), &text)?;

@@ -1,6 +1,5 @@
 -- Blocks of 88 bytes, one after another.
-use Rattle.std.proofs.Common.{◌≡◌, ◌≢◌, ℕ, zero, suc, ◌+◌, ◌-◌, ◌*◌, ◌<◌, ◌≤◌, List, [], ◌∷◌, ◌++◌, length, take, drop, refl, sym, ◌∙◌, ap, arith, length-append, length-drop, take-append-drop, drop-drop, ◌⊎◌, inl, inr}
-use Rattle.std.specs.List.{range_with_len, flat_map}
+use Rattle.std.proofs.Common.{◌≡◌, ◌≢◌, ℕ, ◌+◌, ◌-◌, ◌*◌, ◌<◌, ◌≤◌, List, ◌++◌, length, take, drop, sym, ◌∙◌, ap, arith, length-append, length-drop, drop-drop, ◌⊎◌, inl, inr}
 use Rattle.std.proofs.lemmas.List.{drop-take, take-take, take-append-le, drop-append-le, length-take, drop_at, take_all}
 use Rattle.frame.specs.Pieces.{piece_bytes}
 use Rattle.window.specs.Places.{with_block}
@@ -66,22 +65,3 @@ not_written s block i k c full le short ne =
 pub length-with_block : (s block : List ℕ) (i : ℕ) → length block ≡ 88 → 88 * i + 88 ≤ length s → length (with_block s i block) ≡ length s
 length-with_block s block i full le =
     omega (arith, length-append (take (88 * i) s) (block ++ drop (88 * i + 88) s), length-append block (drop (88 * i + 88) s), length-drop (88 * i + 88) s, length-front s (88 * i) (omega arith))
-
-drop_past : (m : List ℕ) (n : ℕ) → length m ≤ n → drop n m ≡ []
-drop_past [] zero le = refl
-drop_past [] (suc n) le = refl
-drop_past (x ∷ m) zero le = absurd (omega (arith, le))
-drop_past (x ∷ m) (suc n) le = drop_past m n (omega (arith, le))
-
-block_more : (m : List ℕ) (k : ℕ) → piece_bytes m k ++ drop (88 * (k + 1)) m ≡ drop (88 * k) m
-unfolding piece_bytes
-block_more m k =
-    let e : 88 * (k + 1) ≡ 88 * k + 88 = omega arith in
-    ap (λ n. take 88 (drop (88 * k) m) ++ drop n m) e
-    ∙ ap (λ rest. take 88 (drop (88 * k) m) ++ rest) (sym (drop-drop 88 (88 * k) m))
-    ∙ take-append-drop 88 (drop (88 * k) m)
-
--- the blocks of a message from the k-th on, joined
-pub blocks_join : (m : List ℕ) (n k : ℕ) → length m ≤ 88 * (k + n) → flat_map (piece_bytes m) (range_with_len k n) ≡ drop (88 * k) m
-blocks_join m zero k le = sym (drop_past m (88 * k) (omega (arith, le)))
-blocks_join m (suc n) k le = ap (λ rest. piece_bytes m k ++ rest) (blocks_join m n (k + 1) (omega (arith, le))) ∙ block_more m k

@@ -10,7 +10,7 @@ use Rattle.frame.specs.Pieces.{PieceView, IsPiece, used_bytes, piece_bytes}
 use Rattle.window.specs.Places.{joined, nothing_held, has_room_for, with_piece, with_block, empty_count}
 use Rattle.window.specs.PlacesInside.{place_of, places_in}
 use Rattle.window.proofs.Filling.{map_set, all_none, empty_set}
-use Rattle.window.proofs.Blocks.{full_block, last_block, written, not_written, blocks_join}
+use Rattle.window.proofs.Blocks.{full_block, last_block, written, not_written}
 
 pub length_places : (held : List Bool) (m : List ℕ) (last : ℕ) → length (places_in held m last) ≡ last + 1
 length_places held m last = length-map-range_with_len (place_of held m) 0 (last + 1)
@@ -120,15 +120,19 @@ bytes_of : (b : Bool) (bytes : List ℕ) → is_some (if b then Some bytes else 
 bytes_of true bytes h = refl
 bytes_of false bytes h = cc
 
+-- the parts of bytes, joined, are the bytes, where they reach their end
+abbrev pub PartsJoin : Type 0
+PartsJoin = (bytes : List ℕ) (n : ℕ) → length bytes ≤ 88 * n → flat_map (piece_bytes bytes) (range_with_len 0 n) ≡ bytes
+
 -- where no place is empty, the places hold the message
-pub joined_kept : (held : List Bool) (m : List ℕ) (last : ℕ) → length m ≤ 88 * (last + 1) → list_all is_some (places_in held m last) ≡ true → joined (places_in held m last) ≡ m
-joined_kept held m last le all =
+pub joined_kept : PartsJoin → (held : List Bool) (m : List ℕ) (last : ℕ) → length m ≤ 88 * (last + 1) → list_all is_some (places_in held m last) ≡ true → joined (places_in held m last) ≡ m
+joined_kept join held m last le all =
     let e : 0 + (last + 1) ≡ last + 1 = omega arith in
     flat_map-map (λ (bytes : Option (List ℕ)). unwrap_or bytes []) (place_of held m) (range_with_len 0 (last + 1))
     ∙ joined_alike (λ i. unwrap_or (place_of held m i) []) (piece_bytes m) (λ i. is_some (place_of held m i)) (range_with_len 0 (last + 1))
     (λ i some. bytes_of (get_or held i false) (piece_bytes m i) some)
     (sym (list_all-map is_some (place_of held m) (range_with_len 0 (last + 1))) ∙ all)
-    ∙ blocks_join m (last + 1) 0 (omega arith)
+    ∙ join m (last + 1) le
 
 room_parts : (held : List Bool) (m : List ℕ) (last : ℕ) (x : PieceView) → IsPiece x → has_room_for (places_in held m last) x ≡ true → (x.last ≡ last) × (get_or held x.piece false ≡ false)
 room_parts held m last x ok room =

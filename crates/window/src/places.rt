@@ -2,7 +2,7 @@ ghost use Rattle.std.specs.Prelude.{◌≡◌, ◌≤◌, ◌+◌, true, length,
 ghost use Rattle.std.specs.List.{list_all};
 ghost use Rattle.window.specs.Places.{joined, nothing_held, has_room_for, with_block, with_piece};
 
-use frame::{MESSAGE_LIMIT, PIECE_SIZE, Piece};
+use frame::{MESSAGE_LIMIT, PIECE_SIZE, Piece, pieces_carry_their_message};
 use std::alloc::{AllocError, Global};
 use std::marker::Model;
 
@@ -109,6 +109,7 @@ impl Places {
         ensures length { result ≡ length (joined self.now) }
         ensures small { result ≤ 5632 }
     {
+        pieces_carry_their_message();
         PIECE_SIZE as u16 * u16::from(self.last) + u16::from(self.tail)
     }
 
@@ -118,6 +119,7 @@ impl Places {
         requires length { length out.old ≡ length (joined self.now) }
         ensures { out.new ≡ joined self.now }
     {
+        pieces_carry_their_message();
         out.copy_from_slice(&self.bytes[..usize::from(self.len())]);
     }
 }

@@ -3,4 +3,4 @@ use Rattle.lattice_machine.specs.Text.{text_to}
 use Rattle.replay.proofs.print.text_to.Given as goal
 
 abbrev pub invariant-loop-address : goal.invariant-loop-address
-invariant-loop-address l = l.out.items ≡ text_to l.script (l.address - 1)
+invariant-loop-address l = l.out.items ≡ text_to l.report.script (l.address - 1)

@@ -13,6 +13,6 @@ returns-clause-length c =
     let kept = c.self.invariant in
     let long : length m ≡ n = omega (arith, length-take n c.self.inside.bytes.items, kept.last, kept.tail, kept.bytes) in
     let whole = ap (λ (places : List (Option (List ℕ))). list_all is_some places) view ∙ c.requires in
-    let all = joined_kept c.self.inside.held m c.self.inside.last (omega (arith, kept.tail)) whole in
+    let all = joined_kept c.pieces_carry_their_message.ensures.joined c.self.inside.held m c.self.inside.last (omega (arith, kept.tail)) whole in
     let same = ap (λ (places : List (Option (List ℕ))). length (joined places)) view in
     omega (arith, ap length all, same)

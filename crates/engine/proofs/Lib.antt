@@ -1,0 +1,11 @@
+pub mod Cases
+pub mod Reporting
+pub mod Pasts
+pub mod Answering
+pub mod Partners
+pub mod Carrying
+pub mod Arriving
+pub mod Heard
+pub mod Sending
+pub mod Giving
+pub mod Hearing
