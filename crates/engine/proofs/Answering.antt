@@ -45,10 +45,12 @@ sent_few roster (e ∷ past) s u =
     one_by roster (Arrive stream message piece at) s u = omega arith
     one_by roster (Carry stream message at) s u = omega arith
 
-pub sent_elsewhere : (roster : RosterView) (past : List Event) (from to s u : ℕ) (m : List ℕ) → (from ≢ s) ⊎ (to ≢ u) → sent_between roster (sending from to m ∷ past) s u ≡ sent_between roster past s u
+pub sent_elsewhere : (roster : RosterView) (past : List Event) (from to s u : ℕ) (m : List ℕ) → (from ≢ s) ⊎ (to ≢ u)
+    → sent_between roster (sending from to m ∷ past) s u ≡ sent_between roster past s u
 sent_elsewhere roster past from to s u m (inl differ) =
     let other : (from == s) ≡ false = grind (arith, nat_tests, differ) in
-    ap (λ (b : Bool). sent_between roster past s u ++ (if b && to == u && is_accepted roster (Host s) (Host u) m then m ∷ [] else [])) other ∙ append-nil (sent_between roster past s u)
+    ap (λ (b : Bool). sent_between roster past s u ++ (if b && to == u && is_accepted roster (Host s) (Host u) m then m ∷ [] else [])) other
+    ∙ append-nil (sent_between roster past s u)
 sent_elsewhere roster past from to s u m (inr differ) =
     let other : (from == s && to == u && is_accepted roster (Host s) (Host u) m) ≡ false = grind (arith, nat_tests, differ) in
     ap (λ (b : Bool). sent_between roster past s u ++ (if b then m ∷ [] else [])) other ∙ append-nil (sent_between roster past s u)
@@ -61,15 +63,18 @@ sent_here roster past from to m b accepted =
     rw (own, also, accepted) refl
 
 -- a desk of another host
-other_desk : (roster : RosterView) (past : List Event) (from to b : ℕ) (m : List ℕ) (desk : DeskView) → b ≢ from → DeskStands roster past b desk → DeskStands roster (sending from to m ∷ past) b desk
+other_desk : (roster : RosterView) (past : List Event) (from to b : ℕ) (m : List ℕ) (desk : DeskView) → b ≢ from → DeskStands roster past b desk
+    → DeskStands roster (sending from to m ∷ past) b desk
 other_desk roster past from to b m desk differ d =
     let e = sending from to m in
     let not_its : (from == b) ≡ false = grind (arith, nat_tests, differ) in
     record {
       address = d.address;
       partition = d.partition;
-      next = λ r known. d.next r known ∙ ap (λ (messages : List (List ℕ)). if is_partner roster (Host b) (Host r) then Some (length messages) else None) (sym (sent_elsewhere roster past from to b r m (inl (λ same. differ (sym same)))));
-      lines = d.lines ∙ sym (append-nil (told_by roster past (Host b))) ∙ ap (λ (c : Bool). told_by roster past (Host b) ++ (if c then answer_to roster (Host b) (Host to) m (sent roster (Host b) (Host to) past) ∷ [] else [])) (sym not_its);
+      next = λ r known. d.next r known
+          ∙ ap (λ (messages : List (List ℕ)). if is_partner roster (Host b) (Host r) then Some (length messages) else None) (sym (sent_elsewhere roster past from to b r m (inl (λ same. differ (sym same)))));
+      lines = d.lines ∙ sym (append-nil (told_by roster past (Host b)))
+          ∙ ap (λ (c : Bool). told_by roster past (Host b) ++ (if c then answer_to roster (Host b) (Host to) m (sent roster (Host b) (Host to) past) ∷ [] else [])) (sym not_its);
       heard = d.heard;
       stands = d.stands;
       genuine = λ s. more_sent (sent_between roster past s b) (sent_by roster e (Host s) (Host b)) (d.heard s) (arrived_between roster past s b) (d.genuine s);
@@ -78,11 +83,13 @@ other_desk roster past from to b m desk differ d =
 abbrev own_lines : RosterView → List Event → ℕ → ℕ → List ℕ → OutLine → Type 0
 own_lines roster past from to m line = told_by roster (sending from to m ∷ past) (Host from) ≡ told_by roster past (Host from) ++ line ∷ []
 
-lines_own : (roster : RosterView) (past : List Event) (from to : ℕ) (m : List ℕ) → own_lines roster past from to m (answer_to roster (Host from) (Host to) m (sent_between roster past from to))
+lines_own : (roster : RosterView) (past : List Event) (from to : ℕ) (m : List ℕ)
+    → own_lines roster past from to m (answer_to roster (Host from) (Host to) m (sent_between roster past from to))
 lines_own roster past from to m = let own : (from == from) ≡ true = grind (arith, nat_tests) in rw own refl
 
 -- the desk of a host whose send was refused
-refused_desk : (roster : RosterView) (past : List Event) (from to : ℕ) (m : List ℕ) (desk : DeskView) (why : SendRefused) → is_accepted roster (Host from) (Host to) m ≡ false
+refused_desk : (roster : RosterView) (past : List Event) (from to : ℕ) (m : List ℕ) (desk : DeskView) (why : SendRefused)
+    → is_accepted roster (Host from) (Host to) m ≡ false
     → answer_to roster (Host from) (Host to) m (sent_between roster past from to) ≡ Refused (Host to) why
     → DeskStands roster past from desk → DeskStands roster (sending from to m ∷ past) from (after_send desk to (Err why))
 refused_desk roster past from to m desk why refused answer d =
@@ -95,8 +102,10 @@ refused_desk roster past from to m desk why refused answer d =
     record {
       address = d.address;
       partition = d.partition;
-      next = λ r known. d.next r known ∙ ap (λ (messages : List (List ℕ)). if is_partner roster (Host from) (Host r) then Some (length messages) else None) (sym (nothing r));
-      lines = ap (λ lines. lines ++ Refused (Host to) why ∷ []) d.lines ∙ ap (λ line. told_by roster past (Host from) ++ line ∷ []) (sym answer) ∙ sym (lines_own roster past from to m);
+      next = λ r known. d.next r known
+          ∙ ap (λ (messages : List (List ℕ)). if is_partner roster (Host from) (Host r) then Some (length messages) else None) (sym (nothing r));
+      lines = ap (λ lines. lines ++ Refused (Host to) why ∷ []) d.lines ∙ ap (λ line. told_by roster past (Host from) ++ line ∷ []) (sym answer)
+          ∙ sym (lines_own roster past from to m);
       heard = d.heard;
       stands = d.stands;
       genuine = λ s. more_sent (sent_between roster past s from) (sent_by roster e (Host s) (Host from)) (d.heard s) (arrived_between roster past s from) (d.genuine s);
@@ -108,7 +117,8 @@ within_streams (x ∷ xs) zero n h = omega arith
 within_streams (x ∷ xs) (suc i) n h = omega (arith, within_streams xs i n h)
 
 -- the desk of a host whose send was accepted
-accepted_desk : (roster : RosterView) (past : List Event) (from to n : ℕ) (m : List ℕ) (desk : DeskView) → is_accepted roster (Host from) (Host to) m ≡ true
+accepted_desk : (roster : RosterView) (past : List Event) (from to n : ℕ) (m : List ℕ) (desk : DeskView)
+    → is_accepted roster (Host from) (Host to) m ≡ true
     → n ≡ length (sent_between roster past from to) → next_of desk.host to ≡ Some n
     → DeskStands roster past from desk → DeskStands roster (sending from to m ∷ past) from (after_send desk to (Ok n))
 accepted_desk roster past from to n m desk accepted count was d =
@@ -129,7 +139,8 @@ accepted_desk roster past from to n m desk accepted count was d =
                 get_or-set_other desk.host.streams to r (Some (n + 1)) None differ ∙ d.next r known
                 ∙ ap (λ (messages : List (List ℕ)). if is_partner roster (Host from) (Host r) then Some (length messages) else None) (sym (sent_elsewhere roster past from to from r m (inr (λ same. differ (sym same)))))
           ];
-      lines = ap (λ lines. lines ++ Sent (Host to) n ∷ []) d.lines ∙ ap (λ line. told_by roster past (Host from) ++ line ∷ []) (sym answer) ∙ sym (lines_own roster past from to m);
+      lines = ap (λ lines. lines ++ Sent (Host to) n ∷ []) d.lines ∙ ap (λ line. told_by roster past (Host from) ++ line ∷ []) (sym answer)
+          ∙ sym (lines_own roster past from to m);
       heard = d.heard;
       stands = d.stands;
       genuine = λ s. more_sent (sent_between roster past s from) (sent_by roster e (Host s) (Host from)) (d.heard s) (arrived_between roster past s from) (d.genuine s);
@@ -156,7 +167,8 @@ send_is n length b c o is long spent =
     ap (λ x. send_answer x length) is ∙ ap (λ (x : Bool). if x then Err TooLong else (if n == 4294967295 then Err Spent else Ok n)) long
     ∙ ap (λ (x : Bool). if b then Err TooLong else (if x then Err Spent else Ok n)) spent
 
-answered : (roster : RosterView) (past : List Event) (from to : ℕ) (m : List ℕ) (desk : DeskView) → length past < 100000 → is_known roster (Host to) ≡ true → DeskStands roster past from desk
+answered : (roster : RosterView) (past : List Event) (from to : ℕ) (m : List ℕ) (desk : DeskView) → length past < 100000
+    → is_known roster (Host to) ≡ true → DeskStands roster past from desk
     → IsAnswered roster past from to m desk (number_of (send_answer (next_of desk.host to) (length m))) (after_send desk to (send_answer (next_of desk.host to) (length m)))
 answered roster past from to m desk few known d =
     let n = length (sent_between roster past from to) in
@@ -207,7 +219,8 @@ get_other (x ∷ xs) y zero differ = refl
 get_other (x ∷ xs) y (suc k) differ = get_other xs y k (λ same. differ (ap suc same))
 
 -- the pieces of a stream to which a message is added
-kept_here : (old : Option PieceView) (name : PieceName) (p : ℕ) (messages : List (List ℕ)) (m : List ℕ) → old ≡ piece_at name p (slice_get messages name.message)
+kept_here : (old : Option PieceView) (name : PieceName) (p : ℕ) (messages : List (List ℕ)) (m : List ℕ)
+    → old ≡ piece_at name p (slice_get messages name.message)
     → (if name.message == length messages && nat_lt name.piece (pieces m) then Some (piece_of name.from name.to p (length messages) m name.piece) else old) ≡ piece_at name p (slice_get (messages ++ m ∷ []) name.message)
 kept_here old name p messages m stands =
     elim (nat_cases name.message (length messages)) [
@@ -224,7 +237,8 @@ kept_here old name p messages m stands =
           ∙ stands ∙ ap (piece_at name p) (sym (get_other messages m name.message differ))
     ]
 
-own_piece : (roster : RosterView) (past : List Event) (name : PieceName) (n p : ℕ) (m : List ℕ) (old : SentPieces) → is_accepted roster (Host name.from) (Host name.to) m ≡ true
+own_piece : (roster : RosterView) (past : List Event) (name : PieceName) (n p : ℕ) (m : List ℕ) (old : SentPieces)
+    → is_accepted roster (Host name.from) (Host name.to) m ≡ true
     → n ≡ length (sent_between roster past name.from name.to) → p ≡ number_in (partition_of roster (Host name.from)) → PiecesStand roster past old
     → kept_or old name.from name.to p n m name ≡ piece_sent roster (sending name.from name.to m ∷ past) name
 own_piece roster past name n p m old accepted count partition stand =
@@ -238,14 +252,16 @@ own_piece roster past name n p m old accepted count partition stand =
     ∙ ap (λ q. piece_at name q (slice_get (messages ++ m ∷ []) name.message)) partition
     ∙ ap (λ ms. piece_at name (number_in (partition_of roster (Host name.from))) (slice_get ms name.message)) (sym (sent_here roster past name.from name.to m true accepted))
 
-other_piece : (roster : RosterView) (past : List Event) (from to n p : ℕ) (m : List ℕ) (old : SentPieces) (name : PieceName) → (from ≢ name.from) ⊎ (to ≢ name.to) → PiecesStand roster past old
+other_piece : (roster : RosterView) (past : List Event) (from to n p : ℕ) (m : List ℕ) (old : SentPieces) (name : PieceName)
+    → (from ≢ name.from) ⊎ (to ≢ name.to) → PiecesStand roster past old
     → is_of from to n name ≡ false → kept_or old from to p n m name ≡ piece_sent roster (sending from to m ∷ past) name
 other_piece roster past from to n p m old name differ stand other =
     ap (λ (b : Bool). if b && nat_lt name.piece (pieces m) then Some (piece_of from to p n m name.piece) else piece_named old name) other
     ∙ stand name
     ∙ ap (λ ms. piece_at name (number_in (partition_of roster (Host name.from))) (slice_get ms name.message)) (sym (sent_elsewhere roster past from to name.from name.to m differ))
 
-pieces_keep : (roster : RosterView) (past : List Event) (from to n p : ℕ) (m : List ℕ) (old new : SentPieces) → is_accepted roster (Host from) (Host to) m ≡ true → n ≡ length (sent_between roster past from to)
+pieces_keep : (roster : RosterView) (past : List Event) (from to n p : ℕ) (m : List ℕ) (old new : SentPieces)
+    → is_accepted roster (Host from) (Host to) m ≡ true → n ≡ length (sent_between roster past from to)
     → p ≡ number_in (partition_of roster (Host from)) → ((name : PieceName) → piece_named new name ≡ kept_or old from to p n m name)
     → PiecesStand roster past old → PiecesStand roster (sending from to m ∷ past) new
 pieces_keep roster past from to n p m old new accepted count partition kept stand = λ name. kept name ∙
@@ -264,7 +280,8 @@ pieces_keep roster past from to n p m old new accepted count partition kept stan
     ]
 
 -- the desk of the host that sends
-slot_answered : (roster : RosterView) (past : List Event) (from to : ℕ) (m : List ℕ) (old new : Option DeskView) (number : Option ℕ) → length past < 100000 → is_known roster (Host from) ≡ true → is_known roster (Host to) ≡ true
+slot_answered : (roster : RosterView) (past : List Event) (from to : ℕ) (m : List ℕ) (old new : Option DeskView) (number : Option ℕ)
+    → length past < 100000 → is_known roster (Host from) ≡ true → is_known roster (Host to) ≡ true
     → SlotStands roster past from old → number ≡ number_at old to (length m) → new ≡ slot_after_send old to (length m)
     → SlotStands roster (sending from to m ∷ past) from new × (is_some number ≡ is_accepted roster (Host from) (Host to) m) × ((n : ℕ) → number ≡ Some n → n ≡ length (sent_between roster past from to))
 slot_answered roster past from to m None new number few known there stands number_is is = absurd (not_both (is_known roster (Host from)) known stands)
@@ -275,11 +292,13 @@ slot_answered roster past from to m (Some desk) new number few known there stand
       λ n e. a.drawn n (sym number_is ∙ e),
     )
 
-slot_elsewhere : (roster : RosterView) (past : List Event) (from to b : ℕ) (m : List ℕ) (slot : Option DeskView) → b ≢ from → SlotStands roster past b slot → SlotStands roster (sending from to m ∷ past) b slot
+slot_elsewhere : (roster : RosterView) (past : List Event) (from to b : ℕ) (m : List ℕ) (slot : Option DeskView) → b ≢ from
+    → SlotStands roster past b slot → SlotStands roster (sending from to m ∷ past) b slot
 slot_elsewhere roster past from to b m None differ stands = stands
 slot_elsewhere roster past from to b m (Some desk) differ stands = (stands.0, other_desk roster past from to b m desk differ stands.1)
 
-desks_after : (roster : RosterView) (past : List Event) (from to : ℕ) (m : List ℕ) (old new : List (Option DeskView)) → ((b : ℕ) → b ≢ from → desk_at new b ≡ desk_at old b)
+desks_after : (roster : RosterView) (past : List Event) (from to : ℕ) (m : List ℕ) (old new : List (Option DeskView))
+    → ((b : ℕ) → b ≢ from → desk_at new b ≡ desk_at old b)
     → SlotStands roster (sending from to m ∷ past) from (desk_at new from) → DesksStand roster past old → DesksStand roster (sending from to m ∷ past) new
 desks_after roster past from to m old new others own stand = λ b lt.
     elim (nat_cases b from) [
@@ -297,7 +316,8 @@ pub record IsSending (roster : RosterView) (past : List Event) (from to : ℕ) (
   pub others : (b : ℕ) → b ≢ from → desk_at new b ≡ desk_at old b
   pub drawn : number ≡ number_at (desk_at old from) to (length m)
 
-not_accepted : (roster : RosterView) (past : List Event) (from to s r : ℕ) (m : List ℕ) → is_accepted roster (Host from) (Host to) m ≡ false → sent_between roster (sending from to m ∷ past) s r ≡ sent_between roster past s r
+not_accepted : (roster : RosterView) (past : List Event) (from to s r : ℕ) (m : List ℕ) → is_accepted roster (Host from) (Host to) m ≡ false
+    → sent_between roster (sending from to m ∷ past) s r ≡ sent_between roster past s r
 not_accepted roster past from to s r m refused =
     elim (nat_cases from s) [
       | inl f ↦ elim (nat_cases to r) [
@@ -310,18 +330,21 @@ not_accepted roster past from to s r m refused =
     ]
 
 -- the network after a send that was refused
-pub network_refuses : (roster : RosterView) (past : List Event) (from to : ℕ) (m : List ℕ) (old new : Network) → IsSending roster past from to m old.desks new.desks None → new.sent ≡ old.sent
+pub network_refuses : (roster : RosterView) (past : List Event) (from to : ℕ) (m : List ℕ) (old new : Network)
+    → IsSending roster past from to m old.desks new.desks None → new.sent ≡ old.sent
     → Stands roster past old → Stands roster (sending from to m ∷ past) new
 network_refuses roster past from to m old new s same stands =
     let a = slot_answered roster past from to m (desk_at old.desks from) (desk_at new.desks from) None s.few s.known s.to_known (stands.desks from s.within) s.drawn s.here in
     record {
       desks = desks_after roster past from to m old.desks new.desks s.others a.0 stands.desks;
       pieces = subst (PiecesStand roster (sending from to m ∷ past)) (sym same) (λ name.
-          stands.pieces name ∙ ap (λ ms. piece_at name (number_in (partition_of roster (Host name.from))) (slice_get ms name.message)) (sym (not_accepted roster past from to name.from name.to m (sym a.1))));
+          stands.pieces name
+          ∙ ap (λ ms. piece_at name (number_in (partition_of roster (Host name.from))) (slice_get ms name.message)) (sym (not_accepted roster past from to name.from name.to m (sym a.1))));
     }
 
 -- the network after a send that was accepted, and whose pieces are kept
-pub network_sends : (roster : RosterView) (past : List Event) (from to n p : ℕ) (m : List ℕ) (old new : Network) → IsSending roster past from to m old.desks new.desks (Some n)
+pub network_sends : (roster : RosterView) (past : List Event) (from to n p : ℕ) (m : List ℕ) (old new : Network)
+    → IsSending roster past from to m old.desks new.desks (Some n)
     → p ≡ number_in (partition_of roster (Host from)) → ((name : PieceName) → piece_named new.sent name ≡ kept_or old.sent from to p n m name)
     → Stands roster past old → Stands roster (sending from to m ∷ past) new
 network_sends roster past from to n p m old new s partition kept stands =

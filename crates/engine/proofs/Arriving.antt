@@ -30,7 +30,8 @@ pub twice_none : (o : Option (List ℕ)) (before : List (ℕ × ℕ)) (j : ℕ) 
 twice_none o before j = grind (arith, nat_tests)
 
 -- where nothing is brought, nothing is given
-pub given_nothing : (messages : List Event → List (List ℕ)) (e : Event) (past : List Event) (s u : Party) (j : ℕ) → arrivals_by e s u (messages past) ≡ [] → given messages e past s u j ≡ None
+pub given_nothing : (messages : List Event → List (List ℕ)) (e : Event) (past : List Event) (s u : Party) (j : ℕ)
+    → arrivals_by e s u (messages past) ≡ [] → given messages e past s u j ≡ None
 given_nothing messages e past s u j empty =
     let before = arrivals messages past s u in
     ap (λ (b : Bool). cond b (slice_get (messages past) j) None)
@@ -63,7 +64,8 @@ nothing_at name at s b messages differ =
     rw other (grind (arith, nat_tests))
 
 -- nor of another stream
-nothing_from : (name : PieceName) (at s : ℕ) (messages : List (List ℕ)) → (s ≢ name.from) ⊎ (name.to ≢ at) → arrivals_by (arrival name at) (Host s) (Host at) messages ≡ []
+nothing_from : (name : PieceName) (at s : ℕ) (messages : List (List ℕ)) → (s ≢ name.from) ⊎ (name.to ≢ at)
+    → arrivals_by (arrival name at) (Host s) (Host at) messages ≡ []
 nothing_from name at s messages (inl differ) = let other : (name.from == s) ≡ false = grind (arith, nat_tests) in rw other refl
 nothing_from name at s messages (inr differ) = let other : (name.to == at) ≡ false = grind (arith, nat_tests) in rw other (grind (arith, nat_tests))
 
@@ -72,7 +74,8 @@ no_place : (o : Option (List ℕ)) (name : PieceName) (n : ℕ) → piece_at nam
 no_place None name n h = refl
 no_place (Some m) name n h = not_placed (nat_lt name.piece (pieces m)) _ h
 
-nothing_sent : (name : PieceName) (at n : ℕ) (messages : List (List ℕ)) → piece_at name n (slice_get messages name.message) ≡ None → arrivals_by (arrival name at) (Host name.from) (Host at) messages ≡ []
+nothing_sent : (name : PieceName) (at n : ℕ) (messages : List (List ℕ)) → piece_at name n (slice_get messages name.message) ≡ None
+    → arrivals_by (arrival name at) (Host name.from) (Host at) messages ≡ []
 nothing_sent name at n messages none =
     rw (not_right (is_between (between name.from name.to) (Host at) (Host name.from) (Host at)) (has_place (slice_get messages name.message) name.piece) (no_place (slice_get messages name.message) name n none)) refl
 
@@ -86,7 +89,8 @@ comes name messages m there within =
     rw (own, also, there, lt) refl
 
 -- the line that it brings
-line_is : (roster : RosterView) (past : List Event) (name : PieceName) (m : List ℕ) → slice_get (sent_between roster past name.from name.to) name.message ≡ Some m
+line_is : (roster : RosterView) (past : List Event) (name : PieceName) (m : List ℕ)
+    → slice_get (sent_between roster past name.from name.to) name.message ≡ Some m
     → arrivals_by (arrival name name.to) (Host name.from) (Host name.to) (sent_between roster past name.from name.to) ≡ (name.message, name.piece) ∷ []
     → lines_by roster (arrival name name.to) past (Host name.to)
     ≡ given_line (Host name.from) (if is_given (Some m) (arrived_between roster past name.from name.to) ((name.message, name.piece) ∷ arrived_between roster past name.from name.to) name.message then Some m else None)
@@ -133,7 +137,8 @@ desk_hears roster past name old new x carries hold s stands hears =
     (λ r differ. ap (λ more. more ++ arrived_between roster past r a) (nothing_from name a r (sent_between roster past r a) (inl differ))))
 
 -- the desk at an address where the piece comes
-slot_hears : (roster : RosterView) (past : List Event) (name : PieceName) (at : ℕ) (old new : Option DeskView) (x : PieceView) → EachCarries → PiecesHold
+slot_hears : (roster : RosterView) (past : List Event) (name : PieceName) (at : ℕ) (old new : Option DeskView) (x : PieceView) → EachCarries
+    → PiecesHold
     → IsSent roster past name x → SlotStands roster past at old → SlotHears old x new → SlotStands roster (arrival name at ∷ past) at new
 slot_hears roster past name at None None x carries hold s stands hears = stands
 slot_hears roster past name at None (Some new) x carries hold s stands hears = absurd hears
@@ -174,15 +179,18 @@ nothing_to_hand roster past name at r none =
       | inr differ ↦ nothing_from name at r (sent_between roster past r at) (inl differ)
     ]
 
-slot_here : (roster : RosterView) (past : List Event) (name : PieceName) (at : ℕ) (old new : Option DeskView) (o : Option PieceView) → EachCarries → PiecesHold
+slot_here : (roster : RosterView) (past : List Event) (name : PieceName) (at : ℕ) (old new : Option DeskView) (o : Option PieceView) → EachCarries
+    → PiecesHold
     → piece_sent roster past name ≡ o → SlotStands roster past at old → SlotHearsIf old o new → SlotStands roster (arrival name at ∷ past) at new
 slot_here roster past name at old new None carries hold none stands hears =
     subst (SlotStands roster (arrival name at ∷ past) at) (sym hears) (slot_idle roster past name at at old (λ r. nothing_to_hand roster past name at r none) stands)
 slot_here roster past name at old new (Some x) carries hold sent stands hears = slot_hears roster past name at old new x carries hold (found roster past name x sent) stands hears
 
-pub pieces_stay : (roster : RosterView) (past : List Event) (e : Event) (pieces : SentPieces) → ((s r : ℕ) → sent_by roster e (Host s) (Host r) ≡ []) → PiecesStand roster past pieces → PiecesStand roster (e ∷ past) pieces
+pub pieces_stay : (roster : RosterView) (past : List Event) (e : Event) (pieces : SentPieces) → ((s r : ℕ) → sent_by roster e (Host s) (Host r) ≡ [])
+    → PiecesStand roster past pieces → PiecesStand roster (e ∷ past) pieces
 pieces_stay roster past e pieces nothing stand = λ name.
-    stand name ∙ ap (λ messages. piece_at name (number_in (partition_of roster (Host name.from))) (slice_get messages name.message)) (sym (sends_nothing roster e past name.from name.to (nothing name.from name.to)))
+    stand name
+    ∙ ap (λ messages. piece_at name (number_in (partition_of roster (Host name.from))) (slice_get messages name.message)) (sym (sends_nothing roster e past name.from name.to (nothing name.from name.to)))
 
 -- the network after the arrival of a piece
 pub network_arrives : (roster : RosterView) (past : List Event) (name : PieceName) (at : ℕ) (old new : Network) → EachCarries → PiecesHold → at < 256

@@ -29,11 +29,13 @@ abbrev pub carrying : ℕ → ℕ → ℕ → ℕ → Event
 carrying from to j at = Carry (between from to) j (Host at)
 
 -- of other streams nothing more has come
-upto_other : (roster : RosterView) (past : List Event) (from to j k at r : ℕ) → (r ≢ from) ⊎ (to ≢ at) → arrived_upto roster past from to j k at r ≡ arrived_between roster past r at
+upto_other : (roster : RosterView) (past : List Event) (from to j k at r : ℕ) → (r ≢ from) ⊎ (to ≢ at)
+    → arrived_upto roster past from to j k at r ≡ arrived_between roster past r at
 upto_other roster past from to j k at r (inl differ) = let other = no r from differ in rw other refl
 upto_other roster past from to j k at r (inr differ) = let other = no to at differ in rw other (grind (arith, nat_tests))
 
-told_other : (roster : RosterView) (past : List Event) (from to j k at : ℕ) → to ≢ at → told_upto roster past from to j k at ≡ told_by roster past (Host at)
+told_other : (roster : RosterView) (past : List Event) (from to j k at : ℕ) → to ≢ at
+    → told_upto roster past from to j k at ≡ told_by roster past (Host at)
 told_other roster past from to j k at differ = let other = no to at differ in rw other (append-nil (told_by roster past (Host at)))
 
 -- of this one the first k pieces have come
@@ -62,7 +64,8 @@ slot_as : (roster : RosterView) (past past' : List Event) (a : ℕ) (arrived arr
 slot_as roster past past' a arrived arrived' told told' None sent came lines d = d
 slot_as roster past past' a arrived arrived' told told' (Some desk) sent came lines d = (d.0, desk_as roster past past' a arrived arrived' told told' desk sent came lines d.1)
 
-arrived_first : (roster : RosterView) (past : List Event) (from to j at r : ℕ) → arrived_upto roster past from to j 0 at r ≡ arrived_between roster past r at
+arrived_first : (roster : RosterView) (past : List Event) (from to j at r : ℕ)
+    → arrived_upto roster past from to j 0 at r ≡ arrived_between roster past r at
 arrived_first roster past from to j at r =
     elim (nat_cases r from) [
       | inl s ↦ elim (nat_cases to at) [
@@ -75,12 +78,15 @@ arrived_first roster past from to j at r =
 told_first : (roster : RosterView) (past : List Event) (from to j at : ℕ) → told_upto roster past from to j 0 at ≡ told_by roster past (Host at)
 told_first roster past from to j at =
     elim (nat_cases to at) [
-      | inl t ↦ told_own roster past from to j 0 at t ∙ ap (λ more. told_by roster past (Host at) ++ more) (given_none from (slice_get (sent_between roster past from at) j) j (arrived_between roster past from at)) ∙ append-nil (told_by roster past (Host at))
+      | inl t ↦ told_own roster past from to j 0 at t
+          ∙ ap (λ more. told_by roster past (Host at) ++ more) (given_none from (slice_get (sent_between roster past from at) j) j (arrived_between roster past from at))
+          ∙ append-nil (told_by roster past (Host at))
       | inr differ ↦ told_other roster past from to j 0 at differ
     ]
 
 -- at first no piece has come
-pub upto_first : (roster : RosterView) (past : List Event) (from to j at : ℕ) (network : Network) → at < 256 → Stands roster past network → StandsUpto roster past from to j 0 at network
+pub upto_first : (roster : RosterView) (past : List Event) (from to j at : ℕ) (network : Network) → at < 256 → Stands roster past network
+    → StandsUpto roster past from to j 0 at network
 upto_first roster past from to j at network within stands = record {
   others = λ b lt differ. stands.desks b lt;
   here = slot_as roster past past at _ _ _ _ (desk_at network.desks at) (λ s r. refl) (arrived_first roster past from to j at) (told_first roster past from to j at) (stands.desks at within);
@@ -91,18 +97,21 @@ upto_first roster past from to j at network within stands = record {
 abbrev line_upto : List ℕ → List (ℕ × ℕ) → ℕ → ℕ → ℕ → List OutLine
 line_upto m before j k s = given_line (Host s) (if is_given (Some m) before (carried j k before) j then Some m else None)
 
-told_sent : (roster : RosterView) (past : List Event) (from a j k : ℕ) (m : List ℕ) → slice_get (sent_between roster past from a) j ≡ Some m → k ≤ pieces m
+told_sent : (roster : RosterView) (past : List Event) (from a j k : ℕ) (m : List ℕ) → slice_get (sent_between roster past from a) j ≡ Some m
+    → k ≤ pieces m
     → told_upto roster past from a j k a ≡ told_by roster past (Host a) ++ line_upto m (arrived_between roster past from a) j k from
 told_sent roster past from a j k m there le =
     let n : min k (pieces m) ≡ k = omega (arith, le) in
     told_own roster past from a j k a refl ∙ ap (λ o. told_by roster past (Host a) ++ given_upto from j k o (arrived_between roster past from a)) there
     ∙ ap (λ i. told_by roster past (Host a) ++ line_upto m (arrived_between roster past from a) j i from) n
 
-upto_sent : (roster : RosterView) (past : List Event) (from a j k : ℕ) (m : List ℕ) → slice_get (sent_between roster past from a) j ≡ Some m → k ≤ pieces m
+upto_sent : (roster : RosterView) (past : List Event) (from a j k : ℕ) (m : List ℕ) → slice_get (sent_between roster past from a) j ≡ Some m
+    → k ≤ pieces m
     → arrived_upto roster past from a j k a from ≡ carried j k (arrived_between roster past from a)
 upto_sent roster past from a j k m there le =
     let n : min k (pieces m) ≡ k = omega (arith, le) in
-    upto_own roster past from a j k a refl ∙ ap (λ o. carried_upto j k o (arrived_between roster past from a)) there ∙ ap (λ i. carried j i (arrived_between roster past from a)) n
+    upto_own roster past from a j k a refl ∙ ap (λ o. carried_upto j k o (arrived_between roster past from a)) there
+    ∙ ap (λ i. carried j i (arrived_between roster past from a)) n
 
 -- the desk of its receiver, where it has heard the next piece
 desk_next : (roster : RosterView) (past : List Event) (name : PieceName) (old new : DeskView) (x : PieceView) → EachCarries → PiecesHold
@@ -141,11 +150,13 @@ desk_next roster past name old new x carries hold s stands hears =
     (λ r differ. upto_other roster past f a j (k + 1) a r (inl differ) ∙ sym (upto_other roster past f a j k a r (inl differ)))
 
 -- what has come, where the stream isn't to this address
-same_upto : (roster : RosterView) (past : List Event) (from to j k l at r : ℕ) → to ≢ at → arrived_upto roster past from to j l at r ≡ arrived_upto roster past from to j k at r
+same_upto : (roster : RosterView) (past : List Event) (from to j k l at r : ℕ) → to ≢ at
+    → arrived_upto roster past from to j l at r ≡ arrived_upto roster past from to j k at r
 same_upto roster past from to j k l at r differ = upto_other roster past from to j l at r (inr differ) ∙ sym (upto_other roster past from to j k at r (inr differ))
 
 -- the next piece of the message comes to an address
-slot_next : (roster : RosterView) (past : List Event) (name : PieceName) (at : ℕ) (old new : Option DeskView) (x : PieceView) → EachCarries → PiecesHold → IsSent roster past name x
+slot_next : (roster : RosterView) (past : List Event) (name : PieceName) (at : ℕ) (old new : Option DeskView) (x : PieceView) → EachCarries
+    → PiecesHold → IsSent roster past name x
     → SlotIs roster past at (arrived_upto roster past name.from name.to name.message name.piece at) (told_upto roster past name.from name.to name.message name.piece at) old
     → SlotHears old x new
     → SlotIs roster past at (arrived_upto roster past name.from name.to name.message (name.piece + 1) at) (told_upto roster past name.from name.to name.message (name.piece + 1) at) new
@@ -195,16 +206,19 @@ full : (k n : ℕ) → n ≤ k → min k n ≡ n
 full k n le = omega (arith, le)
 
 -- then what has come of a stream is what the event brings it
-all_arrived : (o : Option (List ℕ)) (j k : ℕ) (before : List (ℕ × ℕ)) → ((m : List ℕ) → o ≡ Some m → pieces m ≤ k) → all_pieces j o ++ before ≡ carried_upto j k o before
+all_arrived : (o : Option (List ℕ)) (j k : ℕ) (before : List (ℕ × ℕ)) → ((m : List ℕ) → o ≡ Some m → pieces m ≤ k)
+    → all_pieces j o ++ before ≡ carried_upto j k o before
 all_arrived None j k before all = refl
 all_arrived (Some m) j k before all = ap (λ n. carried j n before) (sym (full k (pieces m) (all m refl)))
 
-nothing_carried : (from to j at s b : ℕ) (messages : List (List ℕ)) → (s ≢ from) ⊎ ((to ≢ b) ⊎ (b ≢ at)) → arrivals_by (carrying from to j at) (Host s) (Host b) messages ≡ []
+nothing_carried : (from to j at s b : ℕ) (messages : List (List ℕ)) → (s ≢ from) ⊎ ((to ≢ b) ⊎ (b ≢ at))
+    → arrivals_by (carrying from to j at) (Host s) (Host b) messages ≡ []
 nothing_carried from to j at s b messages (inl differ) = let other = no from s (λ e. differ (sym e)) in rw other refl
 nothing_carried from to j at s b messages (inr (inl differ)) = let other = no to b differ in rw other (grind (arith, nat_tests))
 nothing_carried from to j at s b messages (inr (inr differ)) = let other = no at b (λ e. differ (sym e)) in rw other (grind (arith, nat_tests))
 
-carried_own : (from to j at : ℕ) (messages : List (List ℕ)) → to ≡ at → arrivals_by (carrying from to j at) (Host from) (Host at) messages ≡ all_pieces j (slice_get messages j)
+carried_own : (from to j at : ℕ) (messages : List (List ℕ)) → to ≡ at
+    → arrivals_by (carrying from to j at) (Host from) (Host at) messages ≡ all_pieces j (slice_get messages j)
 carried_own from to j at messages same =
     let own = yes from from refl in
     let also = yes at at refl in
@@ -236,7 +250,8 @@ arrived_all roster past from to j k at r all =
       | inr differ ↦ nothing (inl differ)
     ]
 
-line_of_all : (s : ℕ) (o : Option (List ℕ)) (j k : ℕ) (before : List (ℕ × ℕ)) → given_line (Host s) (if is_given o before (carried_upto j k o before) j then o else None) ≡ given_upto s j k o before
+line_of_all : (s : ℕ) (o : Option (List ℕ)) (j k : ℕ) (before : List (ℕ × ℕ))
+    → given_line (Host s) (if is_given o before (carried_upto j k o before) j then o else None) ≡ given_upto s j k o before
 line_of_all s None j k before = refl
 line_of_all s (Some m) j k before = refl
 
@@ -261,7 +276,8 @@ told_all roster past from to j k at all =
     ]
 
 -- a message that comes to another address
-carry_idle : (roster : RosterView) (past : List Event) (from to j at b : ℕ) (slot : Option DeskView) → b ≢ at → SlotStands roster past b slot → SlotStands roster (carrying from to j at ∷ past) b slot
+carry_idle : (roster : RosterView) (past : List Event) (from to j at b : ℕ) (slot : Option DeskView) → b ≢ at → SlotStands roster past b slot
+    → SlotStands roster (carrying from to j at ∷ past) b slot
 carry_idle roster past from to j at b slot differ stands =
     let e = carrying from to j at in
     slot_as roster past (e ∷ past) b _ _ _ _ slot (λ s r. sends_nothing roster e past s r refl)
@@ -312,6 +328,7 @@ unfolding piece_count
 few n h = omega arith
 
 -- after 64 pieces there are no more
-pub ends_full : (roster : RosterView) (past : List Event) (from to j k at : ℕ) (network : Network) → 64 ≤ k → StandsUpto roster past from to j k at network → Stands roster (carrying from to j at ∷ past) network
+pub ends_full : (roster : RosterView) (past : List Event) (from to j k at : ℕ) (network : Network) → 64 ≤ k
+    → StandsUpto roster past from to j k at network → Stands roster (carrying from to j at ∷ past) network
 ends_full roster past from to j k at network le stands =
     network_carried roster past from to j k at network (λ m there. omega (arith, le, few (length m) (was_accepted roster past from to j m there).short)) stands

@@ -30,12 +30,14 @@ still_piece messages more x p = record {
   bytes = p.bytes;
 }
 
-still_pieces : (messages more : List (List ℕ)) (h : List PieceView) → AllByRecursion (IsPieceOf messages) h → AllByRecursion (IsPieceOf (messages ++ more)) h
+still_pieces : (messages more : List (List ℕ)) (h : List PieceView) → AllByRecursion (IsPieceOf messages) h
+    → AllByRecursion (IsPieceOf (messages ++ more)) h
 still_pieces messages more [] all = tt
 still_pieces messages more (x ∷ h) all = (still_piece messages more x all.0, still_pieces messages more h all.1)
 
 -- later messages leave the pieces as they are
-pub more_sent : (messages more : List (List ℕ)) (h : List PieceView) (arrived : List (ℕ × ℕ)) → AreGenuine messages h arrived → AreGenuine (messages ++ more) h arrived
+pub more_sent : (messages more : List (List ℕ)) (h : List PieceView) (arrived : List (ℕ × ℕ)) → AreGenuine messages h arrived
+    → AreGenuine (messages ++ more) h arrived
 more_sent messages more h arrived g = record {
   pieces = still_pieces messages more h g.pieces;
   same = g.same;
@@ -53,7 +55,8 @@ same_arrived messages h arrived arrived' g same later = record {
   later = λ j. later j ∙ g.later j;
 }
 
-pub one_more : (messages : List (List ℕ)) (h : List PieceView) (arrived : List (ℕ × ℕ)) (x : PieceView) → AreGenuine messages h arrived → IsPieceOf messages x →
+pub one_more : (messages : List (List ℕ)) (h : List PieceView) (arrived : List (ℕ × ℕ)) (x : PieceView) → AreGenuine messages h arrived
+    → IsPieceOf messages x →
     AreGenuine messages (x ∷ h) ((x.message, x.piece) ∷ arrived)
 one_more messages h arrived x g p = record {
   pieces = (p, g.pieces);
@@ -72,7 +75,8 @@ none_yet messages = record {
 abbrev pub PiecesHold : Type 0
 PiecesHold = (message : List ℕ) → flat_map (piece_bytes message) (range_with_len 0 (pieces message)) ≡ message
 
-pub hold : ((message : List ℕ) (n : ℕ) → length message ≤ 88 * n → flat_map (piece_bytes message) (range_with_len 0 n) ≡ message) → ((message : List ℕ) → length message ≤ 88 * pieces message) → PiecesHold
+pub hold : ((message : List ℕ) (n : ℕ) → length message ≤ 88 * n → flat_map (piece_bytes message) (range_with_len 0 n) ≡ message)
+    → ((message : List ℕ) → length message ≤ 88 * pieces message) → PiecesHold
 hold joined reached message = joined message (pieces message) (reached message)
 
 same_number : (a b : ℕ) → (a == b) ≡ true → a ≡ b
@@ -94,7 +98,8 @@ abbrev has_place_at : List PieceView → ℕ → ℕ → Bool
 has_place_at h j i = list_any (λ x. x.message == j && x.piece == i) h
 
 -- the first piece of a message tells how many it has
-last_known : (messages : List (List ℕ)) (h : List PieceView) (j : ℕ) (m : List ℕ) → AllByRecursion (IsPieceOf messages) h → slice_get messages j ≡ Some m →
+last_known : (messages : List (List ℕ)) (h : List PieceView) (j : ℕ) (m : List ℕ) → AllByRecursion (IsPieceOf messages) h
+    → slice_get messages j ≡ Some m →
     (last_of h j ≡ Some (pieces m - 1)) ⊎ ((last_of h j ≡ None) × ((i : ℕ) → has_place_at h j i ≡ false))
 last_known messages [] j m all is = inr (refl, λ i. refl)
 last_known messages (x ∷ h) j m all is =
@@ -109,7 +114,8 @@ last_known messages (x ∷ h) j m all is =
     ]
 
 -- a place is held where a piece of it is there
-held_where : (messages : List (List ℕ)) (h : List PieceView) (j : ℕ) (m : List ℕ) (i : ℕ) → AllByRecursion (IsPieceOf messages) h → slice_get messages j ≡ Some m →
+held_where : (messages : List (List ℕ)) (h : List PieceView) (j : ℕ) (m : List ℕ) (i : ℕ) → AllByRecursion (IsPieceOf messages) h
+    → slice_get messages j ≡ Some m →
     is_held h j (pieces m - 1) i ≡ has_place_at h j i
 held_where messages [] j m i all is = refl
 held_where messages (x ∷ h) j m i all is =
@@ -153,7 +159,8 @@ whole_when messages h arrived j m g is =
     first_missing P (suc n) some missing = rw missing refl
 
 -- the bytes of a place that is held are those that were cut from the message
-bytes_where : (messages : List (List ℕ)) (h : List PieceView) (j : ℕ) (m : List ℕ) (i : ℕ) → AllByRecursion (IsPieceOf messages) h → slice_get messages j ≡ Some m →
+bytes_where : (messages : List (List ℕ)) (h : List PieceView) (j : ℕ) (m : List ℕ) (i : ℕ) → AllByRecursion (IsPieceOf messages) h
+    → slice_get messages j ≡ Some m →
     bytes_at h j (pieces m - 1) i ≡ (if is_held h j (pieces m - 1) i then Some (piece_bytes m i) else None)
 bytes_where messages [] j m i all is = refl
 bytes_where messages (x ∷ h) j m i all is =
@@ -171,7 +178,8 @@ bytes_where messages (x ∷ h) j m i all is =
     one_place o false true own bytes before now = rw before refl
     one_place o false false own bytes before now = rw before refl
 
-joined_alike : (f g : ℕ → List ℕ) (P : ℕ → Bool) (xs : List ℕ) → ((i : ℕ) → P i ≡ true → f i ≡ g i) → list_all P xs ≡ true → flat_map f xs ≡ flat_map g xs
+joined_alike : (f g : ℕ → List ℕ) (P : ℕ → Bool) (xs : List ℕ) → ((i : ℕ) → P i ≡ true → f i ≡ g i) → list_all P xs ≡ true
+    → flat_map f xs ≡ flat_map g xs
 joined_alike f g P [] same all = refl
 joined_alike f g P (x ∷ xs) same all = grind (arith, nat_tests, same x, joined_alike f g P xs same)
 
@@ -229,7 +237,8 @@ arrived_line messages h arrived x m hold g p is =
     line_when messages h now x m hold g' is ∙ ap (λ b. given_line (Host x.from) (if b then Some m else None)) (completes_when messages h arrived now x m g g' is)
 
 -- one more piece of a message that is carried
-carried_more : (f : ℕ × ℕ → Bool) (j k : ℕ) (arrived : List (ℕ × ℕ)) → list_any f (carried j (k + 1) arrived) ≡ list_any f ((j, k) ∷ carried j k arrived)
+carried_more : (f : ℕ × ℕ → Bool) (j k : ℕ) (arrived : List (ℕ × ℕ))
+    → list_any f (carried j (k + 1) arrived) ≡ list_any f ((j, k) ∷ carried j k arrived)
 carried_more f j k arrived =
     let e : k + 1 ≡ suc k = omega arith in
     let start : 0 + k ≡ k = omega arith in

@@ -32,7 +32,8 @@ pub record IsSent (roster : RosterView) (past : List Event) (name : PieceName) (
   pub within : name.piece < pieces message
   pub is : x ≡ piece_of name.from name.to (number_in (partition_of roster (Host name.from))) name.message message name.piece
 
-found_at : (roster : RosterView) (past : List Event) (name : PieceName) (o : Option (List ℕ)) (x : PieceView) → slice_get (sent_between roster past name.from name.to) name.message ≡ o
+found_at : (roster : RosterView) (past : List Event) (name : PieceName) (o : Option (List ℕ)) (x : PieceView)
+    → slice_get (sent_between roster past name.from name.to) name.message ≡ o
     → piece_at name (number_in (partition_of roster (Host name.from))) o ≡ Some x → IsSent roster past name x
 found_at roster past name None x there h = cc
 found_at roster past name (Some m) x there h = within_at (nat_lt name.piece (pieces m)) refl h
@@ -41,10 +42,12 @@ found_at roster past name (Some m) x there h = within_at (nat_lt name.piece (pie
     within_at true lt h = record { message = m; there = there; within = grind (arith, nat_tests); is = sym (same_Some _ x h) }
     within_at false lt h = cc
 
-pub found : (roster : RosterView) (past : List Event) (name : PieceName) (x : PieceView) → piece_sent roster past name ≡ Some x → IsSent roster past name x
+pub found : (roster : RosterView) (past : List Event) (name : PieceName) (x : PieceView) → piece_sent roster past name ≡ Some x
+    → IsSent roster past name x
 found roster past name x h = found_at roster past name (slice_get (sent_between roster past name.from name.to) name.message) x refl h
 
-pub piece_of_sent : (roster : RosterView) (past : List Event) (name : PieceName) (x : PieceView) → EachCarries → IsSent roster past name x → IsPieceOf (sent_between roster past name.from name.to) x
+pub piece_of_sent : (roster : RosterView) (past : List Event) (name : PieceName) (x : PieceView) → EachCarries → IsSent roster past name x
+    → IsPieceOf (sent_between roster past name.from name.to) x
 piece_of_sent roster past name x carries s =
     let is = s.is in
     record {
@@ -52,7 +55,8 @@ piece_of_sent roster past name x carries s =
       there = ap (λ (y : PieceView). slice_get (sent_between roster past name.from name.to) y.message) is ∙ s.there;
       within = subst (λ (y : PieceView). y.piece < pieces s.message) (sym is) s.within;
       last = ap (λ (y : PieceView). y.last) is;
-      bytes = ap used_bytes is ∙ carries name.from name.to (number_in (partition_of roster (Host name.from))) name.message s.message name.piece ∙ ap (λ (y : PieceView). piece_bytes s.message y.piece) (sym is);
+      bytes = ap used_bytes is ∙ carries name.from name.to (number_in (partition_of roster (Host name.from))) name.message s.message name.piece
+          ∙ ap (λ (y : PieceView). piece_bytes s.message y.piece) (sym is);
     }
 
 some_if : (b : Bool) (n : ℕ) → b ≡ true → is_some (if b then Some n else None) ≡ true
@@ -69,19 +73,23 @@ is_for_receiver roster past name x a arrived told desk d s =
     let address = d.address in
     elim (nat_cases name.to a) [
       | inl same ↦
-          let place : desk.host.partition ≡ number_in (partition_of roster (Host name.from)) = d.partition ∙ ap (λ u. number_in (partition_of roster (Host u))) (sym same) ∙ sym p.numbers in
+          let place : desk.host.partition ≡ number_in (partition_of roster (Host name.from)) = d.partition ∙ ap (λ u. number_in (partition_of roster (Host u))) (sym same)
+          ∙ sym p.numbers in
           let partner : is_partner roster (Host a) (Host name.from) ≡ true = ap (λ u. is_partner roster (Host u) (Host name.from)) (sym same) ∙ p.back in
           let next = d.next name.from p.known in
-          let has : is_some (next_of desk.host name.from) ≡ true = ap is_some next ∙ some_if (is_partner roster (Host a) (Host name.from)) (length (sent_between roster past a name.from)) partner in
+          let has : is_some (next_of desk.host name.from) ≡ true = ap is_some next
+          ∙ some_if (is_partner roster (Host a) (Host name.from)) (length (sent_between roster past a name.from)) partner in
           rw is (grind (arith, nat_tests, same, address, place, has))
       | inr differ ↦ rw is (grind (arith, nat_tests, differ, address))
     ]
 
-stands_at : (host : HostView) (r : ℕ) (h k : List PieceView) (b : Bool) → (b ≡ true → StandsFor host r h) → (b ≡ false → StandsFor host r k) → StandsFor host r (cond b h k)
+stands_at : (host : HostView) (r : ℕ) (h k : List PieceView) (b : Bool) → (b ≡ true → StandsFor host r h) → (b ≡ false → StandsFor host r k)
+    → StandsFor host r (cond b h k)
 stands_at host r h k true first second = first refl
 stands_at host r h k false first second = second refl
 
-genuine_at : (messages : List (List ℕ)) (h k : List PieceView) (arrived : List (ℕ × ℕ)) (b : Bool) → (b ≡ true → AreGenuine messages h arrived) → (b ≡ false → AreGenuine messages k arrived)
+genuine_at : (messages : List (List ℕ)) (h k : List PieceView) (arrived : List (ℕ × ℕ)) (b : Bool) → (b ≡ true → AreGenuine messages h arrived)
+    → (b ≡ false → AreGenuine messages k arrived)
     → AreGenuine messages (cond b h k) arrived
 genuine_at messages h k arrived true first second = first refl
 genuine_at messages h k arrived false first second = second refl

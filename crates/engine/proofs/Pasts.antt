@@ -18,11 +18,13 @@ pub after_more : (events : List Event) (k : ℕ) (e : Event) → slice_get event
 after_more events k e is = ap reverse (take_more events k e (slice_get_within events k e is)) ∙ rw (get_or_from_slice_get events k e e is) (reverse-append (take k events) (e ∷ []))
 
 -- before an event of a script there are fewer than 100,000
-pub few_before : (script : ScriptView) (k : ℕ) (e : Event) → IsScript script → slice_get script.events k ≡ Some e → length (after script.events k) < 100000
+pub few_before : (script : ScriptView) (k : ℕ) (e : Event) → IsScript script → slice_get script.events k ≡ Some e
+    → length (after script.events k) < 100000
 few_before script k e kept there =
     omega (arith, length-reverse (take k script.events), length-take k script.events, slice_get_within script.events k e there, kept.room)
 
-named_at : (roster : RosterView) (events : List Event) (k : ℕ) (e : Event) → AllByRecursion (IsEvent roster) events → slice_get events k ≡ Some e → is_named roster e ≡ true
+named_at : (roster : RosterView) (events : List Event) (k : ℕ) (e : Event) → AllByRecursion (IsEvent roster) events → slice_get events k ≡ Some e
+    → is_named roster e ≡ true
 named_at roster [] k e all here = cc
 named_at roster (x ∷ events) zero e all here = subst (λ y. is_named roster y ≡ true) (same_Some x e here) all.0.named
 named_at roster (x ∷ events) (suc k) e all here = named_at roster events k e all.1 here

@@ -27,12 +27,14 @@ lines_at [] a = refl
 lines_at (slot ∷ desks) zero = refl
 lines_at (slot ∷ desks) (suc a) = lines_at desks a
 
-lines_stand : (roster : RosterView) (past : List Event) (a : ℕ) (slot : Option DeskView) → is_known roster (Host a) ≡ true → SlotStands roster past a slot → lines_in slot ≡ told_by roster past (Host a)
+lines_stand : (roster : RosterView) (past : List Event) (a : ℕ) (slot : Option DeskView) → is_known roster (Host a) ≡ true
+    → SlotStands roster past a slot → lines_in slot ≡ told_by roster past (Host a)
 lines_stand roster past a None known stands = absurd (not_both (is_known roster (Host a)) known stands)
 lines_stand roster past a (Some desk) known stands = stands.1.lines
 
 -- desks that stand where the machine is have the lines that it tells
-pub lines_told : (roster : RosterView) (past : List Event) (a : ℕ) (desks : List (Option DeskView)) → a < 256 → is_known roster (Host a) ≡ true → DesksStand roster past desks
+pub lines_told : (roster : RosterView) (past : List Event) (a : ℕ) (desks : List (Option DeskView)) → a < 256 → is_known roster (Host a) ≡ true
+    → DesksStand roster past desks
     → get_or (map lines_in desks) a [] ≡ told_by roster past (Host a)
 lines_told roster past a desks within known stand = lines_at desks a ∙ lines_stand roster past a (desk_at desks a) known (stand a within)
 
@@ -47,7 +49,8 @@ row_partition n rows a true row all own rest there = (row.partition, rw own refl
 row_partition n rows a false row all other rest there = rw other (rest (rw other at there))
 
 -- the partition of a host that is there has a level
-its_partition : (n : ℕ) (rows : List HostRow) (a : ℕ) → AllByRecursion (IsHostRow n) rows → is_some (partition_at rows a) ≡ true → (p : Partition) × (partition_at rows a ≡ Some p) × (p.0 < n)
+its_partition : (n : ℕ) (rows : List HostRow) (a : ℕ) → AllByRecursion (IsHostRow n) rows → is_some (partition_at rows a) ≡ true
+    → (p : Partition) × (partition_at rows a ≡ Some p) × (p.0 < n)
 its_partition n [] a all there = cc
 its_partition n (row ∷ rows) a all there = row_partition n rows a (row.address == a) row all refl (its_partition n rows a all.1) there
 

@@ -13,7 +13,8 @@ use Rattle.lattice_machine.specs.Sent.{is_accepted, sent_by}
 use Rattle.engine.specs.Standing.{number_in, sent_between}
 
 -- a message of two lists is in one of them
-pub get_append : {X : Type 0} (xs ys : List X) (j : ℕ) (x : X) → slice_get (xs ++ ys) j ≡ Some x → (slice_get xs j ≡ Some x) ⊎ ((i : ℕ) × (slice_get ys i ≡ Some x))
+pub get_append : {X : Type 0} (xs ys : List X) (j : ℕ) (x : X) → slice_get (xs ++ ys) j ≡ Some x
+    → (slice_get xs j ≡ Some x) ⊎ ((i : ℕ) × (slice_get ys i ≡ Some x))
 get_append [] ys j x h = inr (j, h)
 get_append (y ∷ xs) ys zero x h = inl h
 get_append (y ∷ xs) ys (suc j) x h = get_append xs ys j x h
@@ -33,13 +34,15 @@ accepted_one true true false roster s u i message m is h = cc
 accepted_one true false c roster s u i message m is h = cc
 accepted_one false d c roster s u i message m is h = cc
 
-accepted_by : (roster : RosterView) (e : Event) (s u i : ℕ) (m : List ℕ) → slice_get (sent_by roster e (Host s) (Host u)) i ≡ Some m → IsAccepted roster s u m
+accepted_by : (roster : RosterView) (e : Event) (s u i : ℕ) (m : List ℕ) → slice_get (sent_by roster e (Host s) (Host u)) i ≡ Some m
+    → IsAccepted roster s u m
 accepted_by roster (Send from to message) s u i m h = accepted_one (is_same_party (Host from) (Host s)) (is_same_party to (Host u)) (is_accepted roster (Host s) (Host u) message) roster s u i message m refl h
 accepted_by roster (Arrive stream message piece at) s u i m h = cc
 accepted_by roster (Carry stream message at) s u i m h = cc
 
 -- a message that was sent was accepted
-pub was_accepted : (roster : RosterView) (past : List Event) (s u j : ℕ) (m : List ℕ) → slice_get (sent_between roster past s u) j ≡ Some m → IsAccepted roster s u m
+pub was_accepted : (roster : RosterView) (past : List Event) (s u j : ℕ) (m : List ℕ) → slice_get (sent_between roster past s u) j ≡ Some m
+    → IsAccepted roster s u m
 was_accepted roster [] s u j m h = cc
 was_accepted roster (e ∷ past) s u j m h =
     elim (get_append (sent_between roster past s u) (sent_by roster e (Host s) (Host u)) j m h) [
@@ -47,7 +50,8 @@ was_accepted roster (e ∷ past) s u j m h =
       | inr now ↦ accepted_by roster e s u now.0 m now.1
     ]
 
-one_partition : (p q : Option Partition) → is_one_partition p q ≡ true → (is_some p ≡ true) × (is_some q ≡ true) × (number_in p ≡ number_in q) × (is_one_partition q p ≡ true)
+one_partition : (p q : Option Partition) → is_one_partition p q ≡ true
+    → (is_some p ≡ true) × (is_some q ≡ true) × (number_in p ≡ number_in q) × (is_one_partition q p ≡ true)
 one_partition None q h = cc
 one_partition (Some p) None h = cc
 one_partition (Some p) (Some q) h = (refl, refl, grind (arith, nat_tests), grind (arith, nat_tests))
@@ -67,5 +71,6 @@ partners roster s u h =
     record { known = both.0; also_known = both.1; numbers = both.2; back = grind (arith, nat_tests, there) }
 
 -- events of the network send nothing
-pub sends_nothing : (roster : RosterView) (e : Event) (past : List Event) (s u : ℕ) → sent_by roster e (Host s) (Host u) ≡ [] → sent_between roster (e ∷ past) s u ≡ sent_between roster past s u
+pub sends_nothing : (roster : RosterView) (e : Event) (past : List Event) (s u : ℕ) → sent_by roster e (Host s) (Host u) ≡ []
+    → sent_between roster (e ∷ past) s u ≡ sent_between roster past s u
 sends_nothing roster e past s u none = ap (λ more. sent_between roster past s u ++ more) none ∙ append-nil (sent_between roster past s u)

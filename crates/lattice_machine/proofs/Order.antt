@@ -19,7 +19,8 @@ use Rattle.lattice_machine.proofs.Arrivals.{after_more, event_there}
 use Rattle.lattice_machine.proofs.LowPart.{nothing_sent}
 
 -- what one more event leaves true, any number of them leaves true
-stays : (P : List Event → Type 0) → ((g : Event) (past : List Event) → P past → P (g ∷ past)) → (events : List Event) (n d : ℕ) → n + d ≤ length events → P (after events n) → P (after events (n + d))
+stays : (P : List Event → Type 0) → ((g : Event) (past : List Event) → P past → P (g ∷ past)) → (events : List Event) (n d : ℕ)
+    → n + d ≤ length events → P (after events n) → P (after events (n + d))
 stays P kept events n zero within here = subst (λ x. P (after events x)) (omega arith) here
 stays P kept events n (suc d) within here =
     let there = event_there events (n + d) (omega (arith, within)) in
@@ -43,7 +44,8 @@ whole_still None brought before j h = cc
 whole_still (Some m) brought before j h =
     all_still (has_piece before j) (has_piece (brought ++ before) j) (range_with_len 0 (pieces m)) (λ i is. list_any-append (λ (p : ℕ × ℕ). p.0 == j && p.1 == i) brought before ∙ or_right _ _ is) h
 
-found_whole : (before added : List (List ℕ)) (arrived : List (ℕ × ℕ)) (j : ℕ) (o : Option (List ℕ)) → slice_get before j ≡ o → has_all o arrived j ≡ true → has_all (slice_get (before ++ added) j) arrived j ≡ true
+found_whole : (before added : List (List ℕ)) (arrived : List (ℕ × ℕ)) (j : ℕ) (o : Option (List ℕ)) → slice_get before j ≡ o
+    → has_all o arrived j ≡ true → has_all (slice_get (before ++ added) j) arrived j ≡ true
 found_whole before added arrived j None is h = cc
 found_whole before added arrived j (Some m) is h = rw (found_still before added j m is) h
 
@@ -52,7 +54,8 @@ abbrev IsWhole : RosterView → Party → Party → ℕ → List Event → Type 
 IsWhole roster s u j past = has_all (slice_get (sent roster s u past) j) (arrivals (sent roster s u) past s u) j ≡ true
 
 -- what is whole stays whole
-still_whole : (roster : RosterView) (s u : Party) (j : ℕ) (g : Event) (past : List Event) → IsWhole roster s u j past → IsWhole roster s u j (g ∷ past)
+still_whole : (roster : RosterView) (s u : Party) (j : ℕ) (g : Event) (past : List Event) → IsWhole roster s u j past
+    → IsWhole roster s u j (g ∷ past)
 still_whole roster s u j g past h =
     let o = slice_get (sent roster s u past) j in
     let brought = arrivals_by g s u (sent roster s u past) in
@@ -86,7 +89,8 @@ all_three false b c h = cc
 compared : (i j : ℕ) → i ≢ j → ((j < i) → ⊥) → i < j
 compared i j differ not_less = grind arith
 
-pub in_order : (roster : RosterView) (events : List Event) (k l : ℕ) (e f : Event) (s u : Party) (i j : ℕ) → k < l → slice_get events k ≡ Some e → slice_get events l ≡ Some f
+pub in_order : (roster : RosterView) (events : List Event) (k l : ℕ) (e f : Event) (s u : Party) (i j : ℕ) → k < l → slice_get events k ≡ Some e
+    → slice_get events l ≡ Some f
     → gives (sent roster s u) e (after events k) s u i ≡ true → gives (sent roster s u) f (after events l) s u j ≡ true → i < j
 in_order roster events k l e f s u i j lt e_is f_is first second =
     let messages = sent roster s u in
@@ -108,14 +112,16 @@ given_where : (b : Bool) (o : Option (List ℕ)) (m : List ℕ) → (if b then o
 given_where true o m is = is
 given_where false o m is = cc
 
-pub its_message : (roster : RosterView) (e : Event) (past : List Event) (s u : Party) (j : ℕ) (m : List ℕ) → given (sent roster s u) e past s u j ≡ Some m → slice_get (sent roster s u past) j ≡ Some m
+pub its_message : (roster : RosterView) (e : Event) (past : List Event) (s u : Party) (j : ℕ) (m : List ℕ)
+    → given (sent roster s u) e past s u j ≡ Some m → slice_get (sent roster s u past) j ≡ Some m
 its_message roster e past s u j m is = given_where (gives (sent roster s u) e past s u j) (slice_get (sent roster s u past) j) m is
 
 -- what was never sent is never given
 none_given : (messages : List (List ℕ)) (before now : List (ℕ × ℕ)) (j : ℕ) → messages ≡ [] → is_given (slice_get messages j) before now j ≡ false
 none_given messages before now j none = rw none
 
-pub between_partners : (roster : RosterView) (e : Event) (past : List Event) (s u : Party) (j : ℕ) → gives (sent roster s u) e past s u j ≡ true → is_partner roster s u ≡ true
+pub between_partners : (roster : RosterView) (e : Event) (past : List Event) (s u : Party) (j : ℕ) → gives (sent roster s u) e past s u j ≡ true
+    → is_partner roster s u ≡ true
 between_partners roster e past s u j h =
     elim (bool_cases (is_partner roster s u)) [
       | inl partners ↦ partners
