@@ -22,11 +22,6 @@ no x y differ = grind (arith, nat_tests, differ)
 pub both : (b c : Bool) → b ≡ true → c ≡ true → (b && c) ≡ true
 both b c h g = rw (h, g) refl
 
-pub both_parts : (b c : Bool) → (b && c) ≡ true → (b ≡ true) × (c ≡ true)
-both_parts true true h = (h, h)
-both_parts true false h = cc
-both_parts false c h = cc
-
 pub not_left : (b c : Bool) → b ≡ false → (b && c) ≡ false
 not_left b c h = rw h refl
 

@@ -1,14 +1,13 @@
-ghost use Rattle.std.specs.Prelude.{◌≡◌, ℕ, ◌+◌, ◌<◌, [], length, reverse, OnOk, IfOk, true, Some, slice_get};
+ghost use Rattle.std.specs.Prelude.{◌≡◌, ℕ, ◌<◌, List, [], ◌∷◌, length, reverse, OnOk, IfOk, true};
 ghost use Rattle.std.specs.List.{AllByRecursion};
 ghost use Rattle.levels.specs.declared.level.Party.TheVariants.{Host};
 ghost use Rattle.levels.specs.Rosters.{partition_of, level_of};
-ghost use Rattle.events.specs.declared.event.Event.TheVariants.{Send, Arrive, Carry};
-ghost use Rattle.events.specs.Scripts.{is_known};
-ghost use Rattle.lattice_machine.specs.Laws.{after};
+ghost use Rattle.events.specs.declared.event.Event.{Event};
+ghost use Rattle.events.specs.Scripts.{is_known, is_named};
 ghost use Rattle.lattice_machine.specs.Told.{told_within};
 ghost use Rattle.script.specs.Plain.{IsHost, IsPlain};
 ghost use Rattle.engine.specs.Reports.{lines_of};
-ghost use Rattle.engine.specs.Standing.{number_in, Stands};
+ghost use Rattle.engine.specs.Standing.{number_in, between, Stands};
 
 use crate::desks::Desks;
 use crate::network::Network;
@@ -78,88 +77,51 @@ fn partition_of(roster: &Roster, address: u8) -> u8
     }
 }
 
-fn send(
-    network: &mut Network,
-    script: &Script,
-    k: usize,
-    from: u8,
-    to: u8,
-    message: &[u8],
-) -> Result<(), AllocError>
-    requires event { slice_get script.now.events k ≡ Some (Send from (Host to) message.now) }
-    requires stands { Stands script.now.roster (after script.now.events k) network.old }
-    ensures { OnOk result (Stands script.now.roster (after script.now.events (k + 1)) network.new) }
+fn name_of(stream: Stream, message: u32, piece: u8) -> PieceName
+    requires from { IsHost stream.from }
+    requires to { IsHost stream.to }
+    ensures stream { stream ≡ between result.from result.to }
+    ensures message { result.message ≡ message }
+    ensures piece { result.piece ≡ piece }
 {
-    let partition = partition_of(script.roster(), from);
-    network.send(from, partition, to, message)
-}
-
-fn arrive(
-    network: &mut Network,
-    alloc: Global,
-    script: &Script,
-    k: usize,
-    stream: Stream,
-    message: u32,
-    piece: u8,
-    at: Party,
-) -> Result<(), AllocError>
-    requires event { slice_get script.now.events k ≡ Some (Arrive stream message piece at) }
-    requires plain { AllByRecursion IsPlain script.now.events }
-    requires stands { Stands script.now.roster (after script.now.events k) network.old }
-    ensures { OnOk result (Stands script.now.roster (after script.now.events (k + 1)) network.new) }
-{
-    let name = PieceName {
+    PieceName {
         from: host_of(stream.from),
         to: host_of(stream.to),
         message,
         piece,
-    };
-    network.arrive(alloc, name, host_of(at))
+    }
 }
 
-fn carry(
+/// One event happens.
+fn step(
     network: &mut Network,
     alloc: Global,
-    script: &Script,
-    k: usize,
-    stream: Stream,
-    message: u32,
-    at: Party,
+    roster: &Roster,
+    event: &Event,
 ) -> Result<(), AllocError>
-    requires event { slice_get script.now.events k ≡ Some (Carry stream message at) }
-    requires plain { AllByRecursion IsPlain script.now.events }
-    requires stands { Stands script.now.roster (after script.now.events k) network.old }
-    ensures { OnOk result (Stands script.now.roster (after script.now.events (k + 1)) network.new) }
+    requires named { is_named roster.now event.now ≡ true }
+    requires plain { IsPlain event.now }
+    ensures { OnOk result ((past : List Event) → length past < 100000 → Stands roster.now past network.old → Stands roster.now (event.now ∷ past) network.new) }
 {
-    let from = host_of(stream.from);
-    let to = host_of(stream.to);
-    network.carry(alloc, from, to, message, host_of(at))
-}
-
-/// Event k happens.
-fn step(network: &mut Network, alloc: Global, script: &Script, k: usize) -> Result<(), AllocError>
-    requires within { k < length script.now.events }
-    requires plain { AllByRecursion IsPlain script.now.events }
-    requires stands { Stands script.now.roster (after script.now.events k) network.old }
-    ensures { OnOk result (Stands script.now.roster (after script.now.events (k + 1)) network.new) }
-{
-    let events = script.events();
-    match &events[k] {
+    match event {
         Event::Send { from, to, message } => {
-            send(network, script, k, *from, host_of(*to), message.bytes())
+            let partition = partition_of(roster, *from);
+            network.send(*from, partition, host_of(*to), message.bytes())
         }
         Event::Arrive {
             stream,
             message,
             piece,
             at,
-        } => arrive(network, alloc, script, k, *stream, *message, *piece, *at),
+        } => network.arrive(alloc, name_of(*stream, *message, *piece), host_of(*at)),
         Event::Carry {
             stream,
             message,
             at,
-        } => carry(network, alloc, script, k, *stream, *message, *at),
+        } => {
+            let first = name_of(*stream, *message, 0);
+            network.carry(alloc, first.from, first.to, *message, host_of(*at))
+        }
     }
 }
 
@@ -169,8 +131,9 @@ fn follow(network: &mut Network, alloc: Global, script: &Script) -> Result<(), A
     requires stands { Stands script.now.roster [] network.old }
     ensures { OnOk result (Stands script.now.roster (reverse script.now.events) network.new) }
 {
-    for k in 0..script.events().len() {
-        step(network, alloc, script, k)?;
+    let roster = script.roster();
+    for event in script.events() {
+        step(network, alloc, roster, event)?;
     }
     Ok(())
 }

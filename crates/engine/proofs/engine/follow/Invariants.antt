@@ -2,5 +2,5 @@ use Rattle.lattice_machine.specs.Laws.{after}
 use Rattle.engine.specs.Standing.{Stands}
 use Rattle.engine.proofs.engine.follow.Given as goal
 
-abbrev pub invariant-loop-k : goal.invariant-loop-k
-invariant-loop-k l = Stands l.script.roster (after l.script.events l.k) l.network
+abbrev pub invariant-loop-event : goal.invariant-loop-event
+invariant-loop-event l = Stands l.script.roster (after l.script.events l.event-index) l.network
