@@ -17,7 +17,13 @@ pub record MemView : Type 0 where
 
 -- before the first call
 abbrev pub uncalled : List ℕ → ℕ → List ℕ → MemView
-uncalled bytes step failing = record { bytes = bytes; step = step; failing = failing; call = 0; faults = 0 }
+uncalled bytes step failing = record {
+  bytes = bytes;
+  step = step;
+  failing = failing;
+  call = 0;
+  faults = 0;
+}
 
 -- the number of the call after this one; the last number stays
 abbrev pub next_call : ℕ → ℕ

@@ -13,6 +13,7 @@ abbrev pub TakesAtMost : Option (List ℕ) → Option (List ℕ) → ℕ → Typ
 TakesAtMost left now most = (count : ℕ) × (count ≤ most) × Takes left now count
 
 -- more than `limit` bytes are taken exactly at `TooMany`, and then one more
-abbrev pub TakesByAnswer : {T : Type 0} → ℕ → Option (List ℕ) → Option (List ℕ) → Result T ReadStop → Type 0
+abbrev pub TakesByAnswer : {T : Type 0} → ℕ → Option (List ℕ) → Option (List ℕ) → Result T ReadStop
+    → Type 0
 TakesByAnswer limit left now (Err TooMany) = Takes left now (limit + 1)
 TakesByAnswer limit left now _ = TakesAtMost left now limit

@@ -4,4 +4,5 @@ use Rattle.std.specs.Io.KnownBytes.{Appends}
 
 -- the bytes that were written grow by the beginning of the text, and not by all of it
 abbrev pub AppendsProperPrefix : Option (List ℕ) → Option (List ℕ) → List ℕ → Type 0
-AppendsProperPrefix written now text = (count : ℕ) × (count < length text) × Appends written now (take count text)
+AppendsProperPrefix written now text = (count : ℕ) × (count < length text)
+    × Appends written now (take count text)

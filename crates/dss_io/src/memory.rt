@@ -1,4 +1,4 @@
-ghost use Rattle.std.specs.Prelude.{◌≡◌, ◌≤◌, ◌<◌, ◌↔◌, [], length, min, Some, IsErr, IsErrOf, IsTrue, IfOk, Contains, if◌then◌else◌};
+ghost use Rattle.std.specs.Prelude.{◌≡◌, ◌≤◌, ◌<◌, ◌↔◌, [], length, min, Some, IsErr, IsErrOf, OnErr, IsTrue, IfOk, Contains, if◌then◌else◌};
 ghost use Rattle.std.specs.Io.{ReadsAtMost, WritesAtMost};
 ghost use Rattle.std.specs.Io.KnownBytes.{ReadConsumes, WriteAppends};
 ghost use Rattle.dss_io.specs.Faults.{one_more, CountsErrors};
@@ -32,10 +32,12 @@ impl Calls {
 
     /// Numbers a call, and says whether it fails.
     fn fails_next(&mut self) -> bool
-        ensures fails { IsTrue result ↔ Contains self.old.failing.items (next_call self.old.newest) }
+        ensures fails { IsTrue result ↔ Contains self.old.failing.items
+            (next_call self.old.newest) }
         ensures newest { self.new.newest ≡ next_call self.old.newest }
         ensures failing { self.new.failing.items ≡ self.old.failing.items }
-        ensures faults { self.new.faults ≡ (if result then one_more self.old.faults else self.old.faults) }
+        ensures faults { self.new.faults
+            ≡ (if result then one_more self.old.faults else self.old.faults) }
     {
         self.newest = self.newest.saturating_add(1);
         let fails = self.failing.contains(&self.newest);
@@ -97,7 +99,9 @@ impl Source for MemSource {
 
     fn read(&mut self, buf: &mut [u8]) -> Result<usize, Failed>
         ensures fails { IsErr result ↔ Contains self.old.failing (next_call self.old.call) }
-        ensures given { IfOk result (λ count. count ≡ min self.old.step (min (length buf.old) (length self.old.bytes))) }
+        ensures untouched { OnErr result (buf.new ≡ buf.old) }
+        ensures given { IfOk result (λ count.
+            count ≡ min self.old.step (min (length buf.old) (length self.old.bytes))) }
         ensures bound { ReadsAtMost result buf.new }
         ensures bytes { ReadConsumes (Some self.old.bytes) (Some self.new.bytes) result buf.new }
         ensures call { IsNextCall self.old self.new }
@@ -164,7 +168,8 @@ impl Sink for MemSink {
 
     /// A call that is refused memory has its number too.
     fn write(&mut self, piece: &[u8]) -> Result<usize, SinkStop>
-        ensures fails { IsErrOf result SinkStop.Failed ↔ Contains self.old.failing (next_call self.old.call) }
+        ensures fails { IsErrOf result SinkStop.Failed
+            ↔ Contains self.old.failing (next_call self.old.call) }
         ensures taken { IfOk result (λ count. count ≡ min self.old.step (length piece.now)) }
         ensures bytes { WriteAppends (Some self.old.bytes) (Some self.new.bytes) result piece.now }
         ensures call { IsNextCall self.old self.new }

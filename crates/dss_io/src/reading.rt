@@ -34,8 +34,8 @@ impl From<AllocError> for ReadStop {
     }
 }
 
-/// Reads a source to its end, in time that grows with the number of bytes. Longer input than `limit`
-/// bytes is read no further than one byte past them.
+/// Reads a source to its end, in time that grows with the number of bytes. Longer input than
+/// `limit` bytes is read no further than one byte past them.
 pub fn read_all<S: Source>(alloc: Global, source: &mut S, limit: usize) -> Result<Vec<u8>, ReadStop>
     // Ok is all that was left.
     ensures whole { IfOk result (λ text. IfSome (S.left source.old) (λ left. text.items ≡ left)) }
@@ -43,11 +43,14 @@ pub fn read_all<S: Source>(alloc: Global, source: &mut S, limit: usize) -> Resul
     ensures end { OnOk result (IsAtEnd (S.left source.new)) }
 
     // Each refusal has its cause, but for want of memory.
-    ensures fault { IsErrOf result ReadStop.Fault → Rose (S.faults source.old) (S.faults source.new) }
-    ensures too_many { IsErrOf result ReadStop.TooMany → IfSome (S.left source.old) (λ left. limit < length left) }
+    ensures fault { IsErrOf result ReadStop.Fault
+        → Rose (S.faults source.old) (S.faults source.new) }
+    ensures too_many { IsErrOf result ReadStop.TooMany
+        → IfSome (S.left source.old) (λ left. limit < length left) }
 
     ensures taken { TakesByAnswer limit (S.left source.old) (S.left source.new) result }
     ensures later { S.faults source.old ≤ S.faults source.new }
+    ensures kept { OnOk result (S.faults source.new ≡ S.faults source.old) }
 {
     let mut text = Vec::new(alloc);
     let mut chunk = [0; CHUNK];

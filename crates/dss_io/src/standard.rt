@@ -1,13 +1,16 @@
-ghost use Rattle.std.specs.Prelude.{◌≡◌, ◌≢◌, ◌-◌, ◌^◌, ◌<◌, ℕ, length, None, Err, IfOk, IsErr};
+ghost use Rattle.std.specs.Prelude.{◌≡◌, ◌≢◌, ◌-◌, ◌^◌, ◌<◌, length, take, None, Err, IfOk, IsErr};
 ghost use Rattle.std.specs.Io.{ReadsAtMost, WritesAtMost};
+ghost use Rattle.std.specs.Io.KnownBytes.{Appends, ReadConsumes, WriteAppends};
 ghost use Rattle.dss_io.specs.Faults.{CountsErrors};
+ghost use Rattle.dss_io.specs.Standard.{uncounted};
 
 use crate::sink::{Sink, SinkStop};
 use crate::source::{Failed, Source};
 use std::io::{Read, Write};
 use std::marker::Model;
 
-/// A reader of the system's, as a source. It tells no bytes, and is seen as its count of faults.
+/// A reader of the system's, as a source. It tells the bytes that the reader tells: none of
+/// standard input.
 #[derive(Drop)]
 pub struct StdSource<R> {
     inner: R,
@@ -15,29 +18,33 @@ pub struct StdSource<R> {
 }
 
 impl<R> Model for StdSource<R> {
-    ghost Value = { ℕ };
+    ghost use Rattle.dss_io.specs.Standard.{Counted};
 
-    ghost view = { λ source. source.faults };
+    ghost Value = { Counted R };
+
+    ghost view = { λ source. record { inner = source.inner; faults = source.faults } };
 }
 
 impl<R: Read> StdSource<R> {
     pub fn new(inner: R) -> StdSource<R>
-        ensures { result ≡ 0 }
+        ensures { result ≡ uncounted inner }
     {
         StdSource { inner, faults: 0 }
     }
 }
 
 impl<R: Read> Source for StdSource<R> {
-    ghost left = { λ _. None };
+    ghost left = { λ source. R.remaining source.inner };
 
-    ghost faults = { λ count. count };
+    ghost faults = { λ source. source.faults };
 
     /// Once the count stands at its last value, each read fails.
     fn read(&mut self, buf: &mut [u8]) -> Result<usize, Failed>
         ensures bound { ReadsAtMost result buf.new }
-        ensures counted { CountsErrors self.old self.new result }
-        ensures last { self.old ≡ 2 ^ 64 - 1 → IsErr result }
+        ensures bytes { ReadConsumes (R.remaining self.old.inner) (R.remaining self.new.inner)
+            result buf.new }
+        ensures counted { CountsErrors self.old.faults self.new.faults result }
+        ensures last { self.old.faults ≡ 2 ^ 64 - 1 → IsErr result }
     {
         if self.faults == u64::MAX {
             return Err(Failed);
@@ -52,7 +59,8 @@ impl<R: Read> Source for StdSource<R> {
     }
 }
 
-/// A writer of the system's, as a sink. It tells no bytes, and is seen as its count of faults.
+/// A writer of the system's, as a sink. As a sink it tells no bytes: where a flush fails behind a
+/// write, the writer holds bytes of a call that failed.
 #[derive(Drop)]
 pub struct StdSink<W> {
     inner: W,
@@ -60,21 +68,25 @@ pub struct StdSink<W> {
 }
 
 impl<W> Model for StdSink<W> {
-    ghost Value = { ℕ };
+    ghost use Rattle.dss_io.specs.Standard.{Counted};
 
-    ghost view = { λ sink. sink.faults };
+    ghost Value = { Counted W };
+
+    ghost view = { λ sink. record { inner = sink.inner; faults = sink.faults } };
 }
 
 impl<W: Write> StdSink<W> {
     pub fn new(inner: W) -> StdSink<W>
-        ensures { result ≡ 0 }
+        ensures { result ≡ uncounted inner }
     {
         StdSink { inner, faults: 0 }
     }
 }
 
 fn write_and_flush<W: Write>(writer: &mut W, piece: &[u8]) -> std::io::Result<usize>
-    ensures { WritesAtMost result piece.now }
+    ensures bound { WritesAtMost result piece.now }
+    ensures bytes { IfOk result (λ count.
+        Appends (W.contents writer.old) (W.contents writer.new) (take count piece.now)) }
 {
     let count = writer.write(piece)?;
     writer.flush()?;
@@ -84,15 +96,19 @@ fn write_and_flush<W: Write>(writer: &mut W, piece: &[u8]) -> std::io::Result<us
 impl<W: Write> Sink for StdSink<W> {
     ghost written = { λ _. None };
 
-    ghost faults = { λ count. count };
+    ghost faults = { λ sink. sink.faults };
 
-    /// Writes and flushes. It fails where either does, where a piece that isn't empty makes no progress,
-    /// and once the count stands at its last value.
+    /// Writes and flushes. It fails where either does, where a piece that isn't empty makes no
+    /// progress, and once the count stands at its last value.
     fn write(&mut self, piece: &[u8]) -> Result<usize, SinkStop>
         ensures bound { WritesAtMost result piece.now }
         ensures moves { IfOk result (λ count. 0 < length piece.now → 0 < count) }
-        ensures counted { CountsErrors self.old self.new result }
-        ensures last { self.old ≡ 2 ^ 64 - 1 → IsErr result }
+        // Where the writer tells its bytes, they grow by those that are answered.
+        ensures inner { IfOk result (λ count.
+            Appends (W.contents self.old.inner) (W.contents self.new.inner)
+            (take count piece.now)) }
+        ensures counted { CountsErrors self.old.faults self.new.faults result }
+        ensures last { self.old.faults ≡ 2 ^ 64 - 1 → IsErr result }
         ensures no_memory { result ≢ Err SinkStop.OutOfMemory }
     {
         if self.faults == u64::MAX {

@@ -1,4 +1,4 @@
-use Rattle.std.proofs.Common.{◌≤◌, ◌+◌, ◌-◌, vec_len}
+use Rattle.std.proofs.Common.{◌≡◌, ◌≤◌, ◌+◌, ◌-◌, vec_len}
 use Rattle.std.specs.Io.KnownBytes.{Consumes}
 use Rattle.dss_io.proofs.reading.read_all.Given as goal
 
@@ -8,7 +8,7 @@ invariant-loop-text g l =
     record {
       given : Consumes (g.S.Source.left l.initial.source) (g.S.Source.left l.source) l.text.items;
       within : vec_len l.text ≤ l.limit;
-      later : g.S.Source.faults l.initial.source ≤ g.S.Source.faults l.source;
+      kept : g.S.Source.faults l.source ≡ g.S.Source.faults l.initial.source;
     }
 
 abbrev pub decreases-loop-text : goal.decreases-loop-text

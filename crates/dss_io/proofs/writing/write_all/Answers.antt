@@ -10,7 +10,8 @@ returns-in_err-count-clause-err g c =
     let front = c.loop-rest.invariant.done in
     let more : 0 < length c.loop-rest.rest.now = search rules in
     rw stop.1
-    (AppendsProperPrefix-from_front _ _ _ front.0 c.loop-rest.rest.now front.1 more (Appends-kept _ _ _ _ front.2 c.in_err-count.ensures.bytes))
+    (AppendsProperPrefix-from_front _ _ _ front.0 c.loop-rest.rest.now front.1 more
+    (Appends-kept _ _ _ _ front.2 c.in_err-count.ensures.bytes))
 
 pub loop-rest-preserved : goal.loop-rest-preserved
 loop-rest-preserved g c =
@@ -18,6 +19,10 @@ loop-rest-preserved g c =
     let count = c.in_ok-count.count in
     let rest = c.loop-rest.rest.now in
     record {
-      done = (front.0 ++ take count rest, front_more _ front.0 rest count front.1, Appends-trans _ _ _ front.0 (take count rest) front.2 c.in_ok-count.ensures.bytes);
-      later = omega arith;
+      done = (
+        front.0 ++ take count rest,
+        front_more _ front.0 rest count front.1,
+        Appends-trans _ _ _ front.0 (take count rest) front.2 c.in_ok-count.ensures.bytes,
+      );
+      kept = omega (arith, c.in_ok-count.ensures.kept);
     }

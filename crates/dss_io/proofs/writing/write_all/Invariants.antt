@@ -6,8 +6,9 @@ use Rattle.dss_io.proofs.writing.write_all.Given as goal
 abbrev pub invariant-loop-rest : goal.invariant-loop-rest
 invariant-loop-rest g l =
     record {
-      done : (bytes : List ℕ) × (l.text ≡ bytes ++ l.rest) × Appends (g.K.Sink.written l.initial.sink) (g.K.Sink.written l.sink) bytes;
-      later : g.K.Sink.faults l.initial.sink ≤ g.K.Sink.faults l.sink;
+      done : (bytes : List ℕ) × (l.text ≡ bytes ++ l.rest)
+          × Appends (g.K.Sink.written l.initial.sink) (g.K.Sink.written l.sink) bytes;
+      kept : g.K.Sink.faults l.sink ≡ g.K.Sink.faults l.initial.sink;
     }
 
 abbrev pub decreases-loop-rest : goal.decreases-loop-rest

@@ -6,5 +6,7 @@ pub returns-clause-bytes : goal.returns-clause-bytes
 returns-clause-bytes c =
     let source = c.self.inside in
     let given = rw c.deref.ensures.value at c.copy_from_slice.ensures.after in
-    rw (← c.self.view_is)
-    (given_front source.bytes.items source.next _ _ _ (omega arith) given, λ none room. none_left source.bytes.items _ (omega arith))
+    rw (← c.self.view_is) (
+      given_front source.bytes.items source.next _ _ _ (omega arith) given,
+      λ none room. none_left source.bytes.items _ (omega arith),
+    )
