@@ -6,7 +6,7 @@ use Rattle.std.specs.Int.Bits.{xor_shifted}
 use Rattle.std.proofs.lemmas.Bool.{cases_lt}
 use Rattle.std.proofs.lemmas.Nat.Bits.{bit_at_xor, bit_at-lt}
 use Rattle.des_cbc.specs.Bits.{bits, xor_bit, xor_bits, permute}
-use Rattle.des_cbc.specs.CipherLaws.{and_left, and_right}
+use Rattle.des_cbc.specs.inside.CipherLaws.{and_left, and_right}
 
 -- ---- exclusive or of numbers and of their bits
 
@@ -35,14 +35,17 @@ bits-add (suc m) n x =
     (ap₂ (λ (b : ℕ) (bs : List Bool). nat_eq (b % 2) 1 ∷ bs)
     (ap (λ (k : ℕ). x / 2 ^ k) (omega arith) ∙ sym (shr-shr x n m)) (bits-add m n x))
 
-pub xor_bits-append : (a b c d : List Bool) → length a ≡ length b → xor_bits (a ++ c) (b ++ d) ≡ xor_bits a b ++ xor_bits c d
+pub xor_bits-append : (a b c d : List Bool) → length a ≡ length b
+    → xor_bits (a ++ c) (b ++ d) ≡ xor_bits a b ++ xor_bits c d
 unfolding xor_bits
 xor_bits-append [] [] c d h = refl
 xor_bits-append [] (y ∷ b) c d h = absurd (omega arith)
 xor_bits-append (x ∷ a) [] c d h = absurd (omega arith)
-xor_bits-append (x ∷ a) (y ∷ b) c d h = ap (λ (bs : List Bool). xor_bit x y ∷ bs) (xor_bits-append a b c d (omega arith))
+xor_bits-append (x ∷ a) (y ∷ b) c d h = ap (λ (bs : List Bool). xor_bit x y ∷ bs)
+    (xor_bits-append a b c d (omega arith))
 
-get_or-xor_bits : (a b : List Bool) (i : ℕ) → length a ≡ length b → get_or (xor_bits a b) i false ≡ xor_bit (get_or a i false) (get_or b i false)
+get_or-xor_bits : (a b : List Bool) (i : ℕ) → length a ≡ length b
+    → get_or (xor_bits a b) i false ≡ xor_bit (get_or a i false) (get_or b i false)
 unfolding xor_bits
 get_or-xor_bits [] [] i h = refl
 get_or-xor_bits [] (y ∷ b) i h = absurd (omega arith)
@@ -50,7 +53,8 @@ get_or-xor_bits (x ∷ a) [] i h = absurd (omega arith)
 get_or-xor_bits (x ∷ a) (y ∷ b) zero h = refl
 get_or-xor_bits (x ∷ a) (y ∷ b) (suc i) h = get_or-xor_bits a b i (omega arith)
 
-pub permute-xor_bits : (t : List ℕ) (a b : List Bool) → length a ≡ length b → permute t (xor_bits a b) ≡ xor_bits (permute t a) (permute t b)
+pub permute-xor_bits : (t : List ℕ) (a b : List Bool) → length a ≡ length b
+    → permute t (xor_bits a b) ≡ xor_bits (permute t a) (permute t b)
 unfolding permute xor_bits
 permute-xor_bits [] a b h = refl
 permute-xor_bits (p ∷ t) a b h =
@@ -85,7 +89,8 @@ unfoldable pub agree : (ℕ → List Bool) → (ℕ → List Bool) → ℕ → B
 agree f g zero = same_bits (f 0) (g 0)
 agree f g (suc n) = same_bits (f (2 ^ n)) (g (2 ^ n)) && agree f g n
 
-pub same_if_agree : (f g : ℕ → List Bool) → Additive f → Additive g → (n : ℕ) → agree f g n ≡ true → (x : ℕ) → x < 2 ^ n → f x ≡ g x
+pub same_if_agree : (f g : ℕ → List Bool) → Additive f → Additive g → (n : ℕ) → agree f g n ≡ true → (x : ℕ)
+    → x < 2 ^ n → f x ≡ g x
 unfolding agree
 same_if_agree f g df dg zero h x lt =
     let none : x ≡ 0 = omega arith in
@@ -100,5 +105,6 @@ same_if_agree f g df dg (suc n) h x lt =
           let sum : bit_xor (2 ^ n) (x - 2 ^ n) ≡ x =
           ap (λ (p : ℕ). bit_xor p (x - 2 ^ n)) (omega arith) ∙ xor_shifted 1 n (x - 2 ^ n) small ∙ omega arith in
           let rest = same_if_agree f g df dg n below (x - 2 ^ n) small in
-          ap f (sym sum) ∙ df.step (2 ^ n) (x - 2 ^ n) ∙ ap₂ xor_bits here rest ∙ sym (dg.step (2 ^ n) (x - 2 ^ n)) ∙ ap g sum
+          ap f (sym sum) ∙ df.step (2 ^ n) (x - 2 ^ n) ∙ ap₂ xor_bits here rest ∙ sym (dg.step (2 ^ n) (x - 2 ^ n))
+              ∙ ap g sum
     ]

@@ -4,7 +4,7 @@ use Rattle.std.proofs.lemmas.List.{reverse-append, map-append}
 use Rattle.std.specs.Int.{w64, from_be_bytes, to_be_bytes}
 use Rattle.des_cbc.specs.Bits.{bits, number, block_bits, block_bytes}
 use Rattle.des_cbc.specs.Cipher.{cipher, encrypted, decrypted}
-use Rattle.des_cbc.specs.BitLaws.{number-bits}
+use Rattle.des_cbc.specs.inside.BitLaws.{number-bits}
 
 pub map-reverse : (f : ℕ → List Bool) (xs : List ℕ) → map f (reverse xs) ≡ reverse (map f xs)
 map-reverse f [] = refl
@@ -26,13 +26,15 @@ pub written_is : (x : ℕ) (r : List ℕ) → x < 2 ^ 64 → r ≡ to_be_bytes w
 unfolding block_bytes
 written_is x r h e = e ∙ ap (to_be_bytes w64) (word_is x (bits 64 x) h refl)
 
-pub encrypted_is : (ks js : List (List Bool)) (x y : ℕ) (b r : List ℕ) → x ≡ from_be_bytes w64 b → y < 2 ^ 64 → bits 64 y ≡ cipher js (bits 64 x) → r ≡ to_be_bytes w64 y → js ≡ ks
+pub encrypted_is : (ks js : List (List Bool)) (x y : ℕ) (b r : List ℕ) → x ≡ from_be_bytes w64 b → y < 2 ^ 64
+    → bits 64 y ≡ cipher js (bits 64 x) → r ≡ to_be_bytes w64 y → js ≡ ks
     → r ≡ encrypted ks b
 unfolding encrypted
 encrypted_is ks js x y b r hx hy e hr k =
     written_is y r hy hr ∙ ap block_bytes (e ∙ ap₂ cipher k (read_is x b hx))
 
-pub decrypted_is : (ks js : List (List Bool)) (x y : ℕ) (b r : List ℕ) → x ≡ from_be_bytes w64 b → y < 2 ^ 64 → bits 64 y ≡ cipher js (bits 64 x) → r ≡ to_be_bytes w64 y → js ≡ reverse ks
+pub decrypted_is : (ks js : List (List Bool)) (x y : ℕ) (b r : List ℕ) → x ≡ from_be_bytes w64 b → y < 2 ^ 64
+    → bits 64 y ≡ cipher js (bits 64 x) → r ≡ to_be_bytes w64 y → js ≡ reverse ks
     → r ≡ decrypted ks b
 unfolding decrypted
 decrypted_is ks js x y b r hx hy e hr k =
@@ -40,13 +42,15 @@ decrypted_is ks js x y b r hx hy e hr k =
 
 -- ---- a block of a text
 
-one_more : (n k j : ℕ) (xs : List ℕ) → j ≡ k + 1 → k < length xs → take (suc n) (drop k xs) ≡ get_or xs k 0 ∷ take n (drop j xs)
+one_more : (n k j : ℕ) (xs : List ℕ) → j ≡ k + 1 → k < length xs
+    → take (suc n) (drop k xs) ≡ get_or xs k 0 ∷ take n (drop j xs)
 one_more n k j xs e h =
     let more : suc k ≡ j = omega arith in
     ap (take (suc n)) (drop-cons xs k 0 h) ∙ ap (λ (i : ℕ). get_or xs k 0 ∷ take n (drop i xs)) more
 
 pub eight : (xs : List ℕ) (k : ℕ) → k + 8 ≤ length xs
-    → take 8 (drop k xs) ≡ get_or xs k 0 ∷ get_or xs (k + 1) 0 ∷ get_or xs (k + 2) 0 ∷ get_or xs (k + 3) 0 ∷ get_or xs (k + 4) 0 ∷ get_or xs (k + 5) 0 ∷ get_or xs (k + 6) 0 ∷ get_or xs (k + 7) 0 ∷ []
+    → take 8 (drop k xs) ≡ get_or xs k 0 ∷ get_or xs (k + 1) 0 ∷ get_or xs (k + 2) 0 ∷ get_or xs (k + 3) 0
+        ∷ get_or xs (k + 4) 0 ∷ get_or xs (k + 5) 0 ∷ get_or xs (k + 6) 0 ∷ get_or xs (k + 7) 0 ∷ []
 eight xs k h =
     one_more 7 k (k + 1) xs (omega arith) (omega arith)
     ∙ ap (λ (t : List ℕ). get_or xs k 0 ∷ t) (one_more 6 (k + 1) (k + 2) xs (omega arith) (omega arith)

@@ -5,8 +5,8 @@ use Rattle.std.specs.Int.Bits.{xor_assoc}
 use Rattle.std.proofs.lemmas.Nat.{xor_comm, xor_shr, xor_mod, xor_block}
 use Rattle.std.proofs.lemmas.Nat.Bits.{bit_at_xor, bit_at_and, bit_at-lt, same_from_bits}
 use Rattle.des_cbc.specs.Bits.{bits, permute}
-use Rattle.des_cbc.specs.BitLaws.{length-bits}
-use Rattle.des_cbc.specs.Words.{exchanged}
+use Rattle.des_cbc.specs.inside.BitLaws.{length-bits}
+use Rattle.des_cbc.specs.inside.Words.{exchanged}
 use Rattle.des_cbc.proofs.Additive.{Additive, bits-bit_xor, permute-xor_bits}
 
 pub record Linear (f : ℕ → ℕ) : Type 0 where
@@ -25,7 +25,8 @@ bit_and-xor x y m =
     same_from_bits _ _ (λ i.
     bit_at_and (bit_xor x y) m i ∙ ap (λ (n : ℕ). min n (bit_at m i)) (bit_at_xor x y i)
     ∙ min_xor (bit_at x i) (bit_at y i) (bit_at m i) (bit_at-lt x i) (bit_at-lt y i) (bit_at-lt m i)
-    ∙ ap₂ (λ (p q : ℕ). (p + q) % 2) (sym (bit_at_and x m i)) (sym (bit_at_and y m i)) ∙ sym (bit_at_xor (bit_and x m) (bit_and y m) i))
+    ∙ ap₂ (λ (p q : ℕ). (p + q) % 2) (sym (bit_at_and x m i)) (sym (bit_at_and y m i))
+    ∙ sym (bit_at_xor (bit_and x m) (bit_and y m) i))
 
 mul-xor : (x y k : ℕ) → bit_xor x y * 2 ^ k ≡ bit_xor (x * 2 ^ k) (y * 2 ^ k)
 mul-xor x y k =
@@ -70,7 +71,8 @@ linear_exchanged k m =
     linear_then (λ x. bit_xor x (x / 2 ^ k)) (λ x. bit_and x m) near (linear_and m) in
     let up : Linear (λ x. bit_and (bit_xor x (x / 2 ^ k)) m * 2 ^ k % 2 ^ 64) =
     linear_then (λ x. bit_and (bit_xor x (x / 2 ^ k)) m) (λ x. x * 2 ^ k % 2 ^ 64) moved (linear_shl k 64) in
-    linear_sum (λ x. bit_xor x (bit_and (bit_xor x (x / 2 ^ k)) m)) (λ x. bit_and (bit_xor x (x / 2 ^ k)) m * 2 ^ k % 2 ^ 64)
+    linear_sum (λ x. bit_xor x (bit_and (bit_xor x (x / 2 ^ k)) m))
+        (λ x. bit_and (bit_xor x (x / 2 ^ k)) m * 2 ^ k % 2 ^ 64)
     (linear_sum (λ x. x) (λ x. bit_and (bit_xor x (x / 2 ^ k)) m) linear_same moved) up
 
 -- ---- their bits
@@ -82,5 +84,6 @@ pub additive_permute : (n : ℕ) (t : List ℕ) → Additive (λ x. permute t (b
 additive_permute n t =
     record {
       step = λ x y.
-          ap (permute t) (bits-bit_xor n x y) ∙ permute-xor_bits t (bits n x) (bits n y) (length-bits n x ∙ sym (length-bits n y));
+          ap (permute t) (bits-bit_xor n x y) ∙ permute-xor_bits t (bits n x) (bits n y)
+              (length-bits n x ∙ sym (length-bits n y));
     }

@@ -10,9 +10,9 @@ use Rattle.des_cbc.specs.Tables.{expansion, primitive}
 use Rattle.des_cbc.specs.Selections.{select_1, select_2, select_3, select_4, select_5, select_6, select_7, select_8, selections}
 use Rattle.des_cbc.specs.Bits.{bits, number, xor_bit, xor_bits, permute}
 use Rattle.des_cbc.specs.Cipher.{select, select_all, cipher_function}
-use Rattle.des_cbc.specs.BitLaws.{length-bits, bits-mod, length-xor_bits}
-use Rattle.des_cbc.specs.CipherLaws.{and_left, and_right}
-use Rattle.des_cbc.specs.Words.{odd_groups, even_groups, groups, selection, at_place}
+use Rattle.des_cbc.specs.inside.BitLaws.{length-bits, bits-mod, length-xor_bits}
+use Rattle.des_cbc.specs.inside.CipherLaws.{and_left, and_right}
+use Rattle.des_cbc.specs.inside.Words.{odd_groups, even_groups, groups, selection, at_place}
 use Rattle.des_cbc.proofs.Additive.{Additive, bits-bit_xor, xor_bits-append, permute-xor_bits, same_bits, same_bits-true, agree, same_if_agree}
 use Rattle.des_cbc.proofs.Linear.{Linear, linear_shr, linear_shl, linear_sum, additive_permute}
 
@@ -21,7 +21,8 @@ use Rattle.des_cbc.proofs.Linear.{Linear, linear_shr, linear_shl, linear_sum, ad
 six : (x y k : ℕ) → bits 6 (bit_xor x y / 2 ^ k) ≡ xor_bits (bits 6 (x / 2 ^ k)) (bits 6 (y / 2 ^ k))
 six x y k = ap (bits 6) (xor_shr x y k) ∙ bits-bit_xor 6 (x / 2 ^ k) (y / 2 ^ k)
 
-six_more : (x y : ℕ) (c d e : List Bool) (k : ℕ) → e ≡ xor_bits c d → bits 6 (bit_xor x y / 2 ^ k) ++ e ≡ xor_bits (bits 6 (x / 2 ^ k) ++ c) (bits 6 (y / 2 ^ k) ++ d)
+six_more : (x y : ℕ) (c d e : List Bool) (k : ℕ) → e ≡ xor_bits c d
+    → bits 6 (bit_xor x y / 2 ^ k) ++ e ≡ xor_bits (bits 6 (x / 2 ^ k) ++ c) (bits 6 (y / 2 ^ k) ++ d)
 six_more x y c d e k h =
     ap₂ (λ (a b : List Bool). a ++ b) (six x y k) h
     ∙ sym (xor_bits-append (bits 6 (x / 2 ^ k)) (bits 6 (y / 2 ^ k)) c d (length-bits 6 _ ∙ sym (length-bits 6 _)))
@@ -45,12 +46,14 @@ expansion_agrees = refl
 additive_groups : Additive (λ r. groups (odd_groups r) (even_groups r))
 additive_groups = record {
   step = λ x y.
-      ap₂ groups (linear_odd.step x y) (linear_even.step x y) ∙ groups-xor (odd_groups x) (even_groups x) (odd_groups y) (even_groups y);
+      ap₂ groups (linear_odd.step x y) (linear_even.step x y)
+          ∙ groups-xor (odd_groups x) (even_groups x) (odd_groups y) (even_groups y);
 }
 
 expansion_is : (r : ℕ) → r < 2 ^ 32 → groups (odd_groups r) (even_groups r) ≡ permute expansion (bits 32 r)
 expansion_is r h =
-    same_if_agree (λ r. groups (odd_groups r) (even_groups r)) (λ r. permute expansion (bits 32 r)) additive_groups (additive_permute 32 expansion) 32 expansion_agrees r h
+    same_if_agree (λ r. groups (odd_groups r) (even_groups r)) (λ r. permute expansion (bits 32 r)) additive_groups
+        (additive_permute 32 expansion) 32 expansion_agrees r h
 
 -- ---- the selection functions
 
@@ -95,7 +98,8 @@ part_7 : part_holds (drop 448 SELECTED) 7 64 ≡ true
 unfolding part_holds same_bits bits permute primitive at_place select select_8 number
 part_7 = refl
 
-entry_is : (part : List ℕ) (place n : ℕ) → part_holds part place n ≡ true → (v : ℕ) → v < n → bits 32 (get_or part v 0) ≡ placed place v
+entry_is : (part : List ℕ) (place n : ℕ) → part_holds part place n ≡ true → (v : ℕ) → v < n
+    → bits 32 (get_or part v 0) ≡ placed place v
 unfolding part_holds
 entry_is part place zero h v lt = absurd (omega arith)
 entry_is part place (suc n) h v lt =
@@ -106,9 +110,11 @@ entry_is part place (suc n) h v lt =
           rw last (same_bits-true _ _ (and_left _ _ h))
     ]
 
-of_part : (place k : ℕ) → k ≡ 64 * place → part_holds (drop k SELECTED) place 64 ≡ true → (v : ℕ) → v < 64 → bits 32 (get_or SELECTED (64 * place + v) 0) ≡ placed place v
+of_part : (place k : ℕ) → k ≡ 64 * place → part_holds (drop k SELECTED) place 64 ≡ true → (v : ℕ) → v < 64
+    → bits 32 (get_or SELECTED (64 * place + v) 0) ≡ placed place v
 of_part place k e h v lt =
-    ap (bits 32) (ap (λ (j : ℕ). get_or SELECTED (j + v) 0) (sym e) ∙ sym (get_or-drop k SELECTED v 0)) ∙ entry_is (drop k SELECTED) place 64 h v lt
+    ap (bits 32) (ap (λ (j : ℕ). get_or SELECTED (j + v) 0) (sym e) ∙ sym (get_or-drop k SELECTED v 0))
+        ∙ entry_is (drop k SELECTED) place 64 h v lt
 
 of_place : (place v : ℕ) → place < 8 → v < 64 → bits 32 (get_or SELECTED (64 * place + v) 0) ≡ placed place v
 of_place zero v h lt = of_part 0 0 refl part_0 v lt
@@ -127,7 +133,8 @@ selected_is place x h =
     let under : x % 2 ^ 6 < 64 = omega arith in
     rw low
     (of_place place (x % 2 ^ 6) h under
-    ∙ ap (λ (b : List Bool). permute primitive (at_place place (select (selection place) b))) (bits-mod 6 6 x (omega arith)))
+    ∙ ap (λ (b : List Bool). permute primitive (at_place place (select (selection place) b)))
+        (bits-mod 6 6 x (omega arith)))
 
 -- ---- the eight together
 
@@ -135,23 +142,40 @@ xor_bit-false : (b : Bool) → xor_bit b false ≡ b
 xor_bit-false true = refl
 xor_bit-false false = refl
 
-places_join : (n1 n2 n3 n4 n5 n6 n7 n8 : ℕ) → xor_bits (xor_bits (xor_bits (xor_bits (xor_bits (xor_bits (xor_bits (at_place 0 (bits 4 n1)) (at_place 1 (bits 4 n2))) (at_place 2 (bits 4 n3))) (at_place 3 (bits 4 n4))) (at_place 4 (bits 4 n5))) (at_place 5 (bits 4 n6))) (at_place 6 (bits 4 n7))) (at_place 7 (bits 4 n8))
-    ≡ (bits 4 n1 ++ (bits 4 n2 ++ (bits 4 n3 ++ (bits 4 n4 ++ (bits 4 n5 ++ (bits 4 n6 ++ (bits 4 n7 ++ (bits 4 n8 ++ []))))))))
+places_join : (n1 n2 n3 n4 n5 n6 n7 n8 : ℕ)
+    → xor_bits (xor_bits (xor_bits (xor_bits (xor_bits (xor_bits
+    (xor_bits (at_place 0 (bits 4 n1)) (at_place 1 (bits 4 n2))) (at_place 2 (bits 4 n3))) (at_place 3 (bits 4 n4)))
+    (at_place 4 (bits 4 n5))) (at_place 5 (bits 4 n6))) (at_place 6 (bits 4 n7))) (at_place 7 (bits 4 n8))
+    ≡ (bits 4 n1 ++ (bits 4 n2 ++ (bits 4 n3 ++ (bits 4 n4 ++ (bits 4 n5
+        ++ (bits 4 n6 ++ (bits 4 n7 ++ (bits 4 n8 ++ []))))))))
 unfolding at_place bits xor_bits
 places_join n1 n2 n3 n4 n5 n6 n7 n8 = simp xor_bit-false
 
-selects_join : (b1 b2 b3 b4 b5 b6 b7 b8 : List Bool) → xor_bits (xor_bits (xor_bits (xor_bits (xor_bits (xor_bits (xor_bits (at_place 0 (select select_1 b1)) (at_place 1 (select select_2 b2))) (at_place 2 (select select_3 b3))) (at_place 3 (select select_4 b4))) (at_place 4 (select select_5 b5))) (at_place 5 (select select_6 b6))) (at_place 6 (select select_7 b7))) (at_place 7 (select select_8 b8))
-    ≡ (select select_1 b1 ++ (select select_2 b2 ++ (select select_3 b3 ++ (select select_4 b4 ++ (select select_5 b5 ++ (select select_6 b6 ++ (select select_7 b7 ++ (select select_8 b8 ++ []))))))))
+selects_join : (b1 b2 b3 b4 b5 b6 b7 b8 : List Bool)
+    → xor_bits (xor_bits (xor_bits (xor_bits (xor_bits (xor_bits
+    (xor_bits (at_place 0 (select select_1 b1)) (at_place 1 (select select_2 b2))) (at_place 2 (select select_3 b3)))
+    (at_place 3 (select select_4 b4))) (at_place 4 (select select_5 b5))) (at_place 5 (select select_6 b6)))
+    (at_place 6 (select select_7 b7))) (at_place 7 (select select_8 b8))
+    ≡ (select select_1 b1 ++ (select select_2 b2
+        ++ (select select_3 b3 ++ (select select_4 b4
+        ++ (select select_5 b5 ++ (select select_6 b6 ++ (select select_7 b7 ++ (select select_8 b8 ++ []))))))))
 unfolding select
 selects_join b1 b2 b3 b4 b5 b6 b7 b8 = places_join _ _ _ _ _ _ _ _
 
 select_all-groups : (a b : ℕ) → select_all selections (groups a b)
-    ≡ (select select_1 (bits 6 (a / 2 ^ 24)) ++ (select select_2 (bits 6 (b / 2 ^ 24)) ++ (select select_3 (bits 6 (a / 2 ^ 16)) ++ (select select_4 (bits 6 (b / 2 ^ 16)) ++ (select select_5 (bits 6 (a / 2 ^ 8)) ++ (select select_6 (bits 6 (b / 2 ^ 8)) ++ (select select_7 (bits 6 (a / 2 ^ 0)) ++ (select select_8 (bits 6 (b / 2 ^ 0)) ++ []))))))))
+    ≡ (select select_1 (bits 6 (a / 2 ^ 24)) ++
+        (select select_2 (bits 6 (b / 2 ^ 24)) ++
+        (select select_3 (bits 6 (a / 2 ^ 16)) ++
+        (select select_4 (bits 6 (b / 2 ^ 16)) ++
+        (select select_5 (bits 6 (a / 2 ^ 8)) ++
+        (select select_6 (bits 6 (b / 2 ^ 8)) ++
+        (select select_7 (bits 6 (a / 2 ^ 0)) ++ (select select_8 (bits 6 (b / 2 ^ 0)) ++ []))))))))
 unfolding select_all groups bits
 select_all-groups a b = refl
 
 -- two words that are P of lists of one length
-both : (v w : ℕ) (a b : List Bool) → bits 32 v ≡ permute primitive a → bits 32 w ≡ permute primitive b → length a ≡ 32 → length b ≡ 32
+both : (v w : ℕ) (a b : List Bool) → bits 32 v ≡ permute primitive a → bits 32 w ≡ permute primitive b → length a ≡ 32
+    → length b ≡ 32
     → (bits 32 (bit_xor v w) ≡ permute primitive (xor_bits a b)) × (length (xor_bits a b) ≡ 32)
 both v w a b hv hw la lb = (
   bits-bit_xor 32 v w ∙ ap₂ xor_bits hv hw ∙ sym (permute-xor_bits primitive a b (omega arith)),
@@ -166,7 +190,8 @@ length-select : (table : List ℕ) (b : List Bool) → length (select table b) �
 unfolding select
 length-select table b = length-bits 4 _
 
-length-placed : (place : ℕ) (table : List ℕ) (b : List Bool) → place < 8 → length (at_place place (select table b)) ≡ 32
+length-placed : (place : ℕ) (table : List ℕ) (b : List Bool) → place < 8
+    → length (at_place place (select table b)) ≡ 32
 length-placed place table b h = omega (arith, length-at_place place (select table b) h, length-select table b)
 
 pub cipher_function_is : (r odd even v1 v2 v3 v4 v5 v6 v7 v8 : ℕ) → r < 2 ^ 32
@@ -178,21 +203,31 @@ pub cipher_function_is : (r odd even v1 v2 v3 v4 v5 v6 v7 v8 : ℕ) → r < 2 ^ 
     → bits 32 v6 ≡ permute primitive (at_place 5 (select select_6 (bits 6 (bit_xor (even_groups r) even / 2 ^ 8))))
     → bits 32 v7 ≡ permute primitive (at_place 6 (select select_7 (bits 6 (bit_xor (odd_groups r) odd))))
     → bits 32 v8 ≡ permute primitive (at_place 7 (select select_8 (bits 6 (bit_xor (even_groups r) even))))
-    → bits 32 (bit_xor (bit_xor (bit_xor (bit_xor (bit_xor (bit_xor (bit_xor (v1) (v2)) (v3)) (v4)) (v5)) (v6)) (v7)) (v8)) ≡ cipher_function (bits 32 r) (groups odd even)
+    → bits 32 (bit_xor (bit_xor (bit_xor (bit_xor (bit_xor (bit_xor (bit_xor (v1) (v2)) (v3)) (v4)) (v5)) (v6)) (v7))
+        (v8)) ≡ cipher_function (bits 32 r) (groups odd even)
 unfolding cipher_function
 cipher_function_is r odd even v1 v2 v3 v4 v5 v6 v7 v8 fits h1 h2 h3 h4 h5 h6 h7 h8 =
     let a : ℕ = bit_xor (odd_groups r) odd in
     let b : ℕ = bit_xor (even_groups r) even in
     let g7 = h7 ∙ ap (λ (x : ℕ). permute primitive (at_place 6 (select select_7 (bits 6 x)))) (sym (div-one a)) in
     let g8 = h8 ∙ ap (λ (x : ℕ). permute primitive (at_place 7 (select select_8 (bits 6 x)))) (sym (div-one b)) in
-    let t2 = both (v1) v2 _ _ h1 h2 (length-placed 0 select_1 (bits 6 (a / 2 ^ 24)) (omega arith)) (length-placed 1 select_2 (bits 6 (b / 2 ^ 24)) (omega arith)) in
-    let t3 = both (bit_xor (v1) v2) v3 _ _ t2.0 h3 (t2.1) (length-placed 2 select_3 (bits 6 (a / 2 ^ 16)) (omega arith)) in
-    let t4 = both (bit_xor (bit_xor (v1) v2) v3) v4 _ _ t3.0 h4 (t3.1) (length-placed 3 select_4 (bits 6 (b / 2 ^ 16)) (omega arith)) in
-    let t5 = both (bit_xor (bit_xor (bit_xor (v1) v2) v3) v4) v5 _ _ t4.0 h5 (t4.1) (length-placed 4 select_5 (bits 6 (a / 2 ^ 8)) (omega arith)) in
-    let t6 = both (bit_xor (bit_xor (bit_xor (bit_xor (v1) v2) v3) v4) v5) v6 _ _ t5.0 h6 (t5.1) (length-placed 5 select_6 (bits 6 (b / 2 ^ 8)) (omega arith)) in
-    let t7 = both (bit_xor (bit_xor (bit_xor (bit_xor (bit_xor (v1) v2) v3) v4) v5) v6) v7 _ _ t6.0 g7 (t6.1) (length-placed 6 select_7 (bits 6 (a / 2 ^ 0)) (omega arith)) in
-    let t8 = both (bit_xor (bit_xor (bit_xor (bit_xor (bit_xor (bit_xor (v1) v2) v3) v4) v5) v6) v7) v8 _ _ t7.0 g8 (t7.1) (length-placed 7 select_8 (bits 6 (b / 2 ^ 0)) (omega arith)) in
-    let joined = selects_join (bits 6 (a / 2 ^ 24)) (bits 6 (b / 2 ^ 24)) (bits 6 (a / 2 ^ 16)) (bits 6 (b / 2 ^ 16)) (bits 6 (a / 2 ^ 8)) (bits 6 (b / 2 ^ 8)) (bits 6 (a / 2 ^ 0)) (bits 6 (b / 2 ^ 0)) in
+    let t2 = both (v1) v2 _ _ h1 h2 (length-placed 0 select_1 (bits 6 (a / 2 ^ 24)) (omega arith))
+        (length-placed 1 select_2 (bits 6 (b / 2 ^ 24)) (omega arith)) in
+    let t3 = both (bit_xor (v1) v2) v3 _ _ t2.0 h3 (t2.1)
+        (length-placed 2 select_3 (bits 6 (a / 2 ^ 16)) (omega arith)) in
+    let t4 = both (bit_xor (bit_xor (v1) v2) v3) v4 _ _ t3.0 h4 (t3.1)
+        (length-placed 3 select_4 (bits 6 (b / 2 ^ 16)) (omega arith)) in
+    let t5 = both (bit_xor (bit_xor (bit_xor (v1) v2) v3) v4) v5 _ _ t4.0 h5 (t4.1)
+        (length-placed 4 select_5 (bits 6 (a / 2 ^ 8)) (omega arith)) in
+    let t6 = both (bit_xor (bit_xor (bit_xor (bit_xor (v1) v2) v3) v4) v5) v6 _ _ t5.0 h6 (t5.1)
+        (length-placed 5 select_6 (bits 6 (b / 2 ^ 8)) (omega arith)) in
+    let t7 = both (bit_xor (bit_xor (bit_xor (bit_xor (bit_xor (v1) v2) v3) v4) v5) v6) v7 _ _ t6.0 g7 (t6.1)
+        (length-placed 6 select_7 (bits 6 (a / 2 ^ 0)) (omega arith)) in
+    let t8 = both (bit_xor (bit_xor (bit_xor (bit_xor (bit_xor (bit_xor (v1) v2) v3) v4) v5) v6) v7) v8 _ _ t7.0 g8
+        (t7.1) (length-placed 7 select_8 (bits 6 (b / 2 ^ 0)) (omega arith)) in
+    let joined = selects_join (bits 6 (a / 2 ^ 24)) (bits 6 (b / 2 ^ 24)) (bits 6 (a / 2 ^ 16)) (bits 6 (b / 2 ^ 16))
+        (bits 6 (a / 2 ^ 8)) (bits 6 (b / 2 ^ 8)) (bits 6 (a / 2 ^ 0)) (bits 6 (b / 2 ^ 0)) in
     t8.0
     ∙ ap (permute primitive) (joined ∙ sym (select_all-groups a b)
-    ∙ ap (select_all selections) (groups-xor (odd_groups r) (even_groups r) odd even ∙ ap (λ (e : List Bool). xor_bits e (groups odd even)) (expansion_is r fits)))
+    ∙ ap (select_all selections) (groups-xor (odd_groups r) (even_groups r) odd even
+        ∙ ap (λ (e : List Bool). xor_bits e (groups odd even)) (expansion_is r fits)))

@@ -6,7 +6,8 @@ use Rattle.des_cbc.specs.Cipher.{cipher, decipher}
 -- each block enciphered together with the output before it; the first with the initial vector
 unfoldable pub chain : List (List Bool) → List Bool → List (List Bool) → List (List Bool)
 chain ks before [] = []
-chain ks before (p ∷ ps) = cipher ks (xor_bits p before) ∷ chain ks (cipher ks (xor_bits p before)) ps
+chain ks before (p ∷ ps) = cipher ks (xor_bits p before)
+    ∷ chain ks (cipher ks (xor_bits p before)) ps
 
 -- each block deciphered, and the block before it taken off
 unfoldable pub unchain : List (List Bool) → List Bool → List (List Bool) → List (List Bool)

@@ -57,7 +57,8 @@ rotate n bs = drop n bs ++ take n bs
 -- the round keys, from the halves C and D and the shifts
 unfoldable pub round_keys : List ℕ → List Bool → List Bool → List (List Bool)
 round_keys [] c d = []
-round_keys (n ∷ ns) c d = permute choice_2 (rotate n c ++ rotate n d) ∷ round_keys ns (rotate n c) (rotate n d)
+round_keys (n ∷ ns) c d = permute choice_2 (rotate n c ++ rotate n d)
+    ∷ round_keys ns (rotate n c) (rotate n d)
 
 -- the key schedule: the 16 round keys of a key of 64 bits
 unfoldable pub schedule : List Bool → List (List Bool)

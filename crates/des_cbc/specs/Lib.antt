@@ -5,9 +5,4 @@ pub mod Cipher
 pub mod Chaining
 pub mod Sealing
 pub mod Parity
-pub mod Words
-pub mod Shapes
-pub mod BitLaws
-pub mod CipherLaws
-pub mod TextLaws
-pub mod ChainLaws
+pub mod inside

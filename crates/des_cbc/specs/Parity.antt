@@ -1,10 +1,12 @@
--- Keys that are the same or weak. The last bit of each byte of a key is a parity bit and counts for nothing.
+-- Keys that are the same or weak. The last bit of each byte of a key is a parity bit and counts for
+-- nothing.
 use Rattle.std.specs.Prelude.{◌≡◌, ℕ, Bool, List, [], ◌∷◌, replicate, Any, ◌++◌}
 use Rattle.des_cbc.specs.Bits.{block_bits}
 
 -- the bits of a key but for the parity bits
 unfoldable pub without_parity : List Bool → List Bool
-without_parity (a ∷ b ∷ c ∷ d ∷ e ∷ f ∷ g ∷ parity ∷ rest) = a ∷ b ∷ c ∷ d ∷ e ∷ f ∷ g ∷ without_parity rest
+without_parity (a ∷ b ∷ c ∷ d ∷ e ∷ f ∷ g ∷ parity ∷ rest) =
+    a ∷ b ∷ c ∷ d ∷ e ∷ f ∷ g ∷ without_parity rest
 without_parity _ = []
 
 -- two keys agree on all bits but the parity bits

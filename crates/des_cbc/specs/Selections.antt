@@ -59,4 +59,5 @@ select_8 =
 
 -- the eight in order
 abbrev pub selections : List (List ℕ)
-selections = select_1 ∷ select_2 ∷ select_3 ∷ select_4 ∷ select_5 ∷ select_6 ∷ select_7 ∷ select_8 ∷ []
+selections = select_1 ∷ select_2 ∷ select_3 ∷ select_4 ∷ select_5 ∷ select_6 ∷ select_7 ∷ select_8
+    ∷ []

@@ -4,7 +4,7 @@ ghost use Rattle.std.specs.Prelude.{◌≡◌, ◌<◌, map, reverse};
 ghost use Rattle.des_cbc.specs.Tables.{initial, inverse_initial, primitive};
 ghost use Rattle.des_cbc.specs.Bits.{bits, permute};
 ghost use Rattle.des_cbc.specs.Cipher.{select, cipher_function, cipher};
-ghost use Rattle.des_cbc.specs.Words.{exchanged, round_key, selection, at_place, unpermuted};
+ghost use Rattle.des_cbc.specs.inside.Words.{exchanged, round_key, selection, at_place, unpermuted};
 
 use crate::selected::SELECTED;
 

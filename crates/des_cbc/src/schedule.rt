@@ -2,7 +2,7 @@ ghost use Rattle.std.specs.Prelude.{◌≡◌, ℕ, ◌*◌, ◌<◌, ◌^◌, �
 ghost use Rattle.des_cbc.specs.Tables.{choice_1, choice_2};
 ghost use Rattle.des_cbc.specs.Bits.{bits, permute, block_bits};
 ghost use Rattle.des_cbc.specs.Cipher.{schedule, rotate, encrypted, decrypted};
-ghost use Rattle.des_cbc.specs.Words.{round_key, turned_word};
+ghost use Rattle.des_cbc.specs.inside.Words.{round_key, turned_word};
 
 use crate::chosen_high::CHOSEN_HIGH;
 use crate::chosen_low::CHOSEN_LOW;

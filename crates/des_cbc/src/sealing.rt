@@ -2,8 +2,8 @@ ghost use Rattle.std.specs.Prelude.{◌≡◌, ◌+◌, ◌%◌, ◌↔◌, leng
 ghost use Rattle.des_cbc.specs.Bits.{bits, text_bits, text_bytes};
 ghost use Rattle.des_cbc.specs.Chaining.{unchain};
 ghost use Rattle.des_cbc.specs.Sealing.{sealed_blocks, des_text};
-ghost use Rattle.des_cbc.specs.ChainLaws.{des_laws};
-ghost use Rattle.des_cbc.specs.Words.{round_key, IsUnsealed};
+ghost use Rattle.des_cbc.specs.inside.ChainLaws.{des_laws};
+ghost use Rattle.des_cbc.specs.inside.Words.{round_key, IsUnsealed};
 
 use crate::rounds::{RoundKeys, encipher, encipher_two, reversed};
 use crate::schedule::Schedule;
@@ -21,7 +21,8 @@ fn seal_blocks(main: &RoundKeys, check: &RoundKeys, nonce: u64, plain: &[u8], ou
     requires room { length out.old ≡ length plain.now + 8 }
     ensures { let main_keys = map round_key main.now in
         let check_keys = map round_key check.now in
-        out.new ≡ text_bytes (sealed_blocks main_keys check_keys (bits 64 nonce) (text_bits plain.now)) }
+        out.new ≡ text_bytes (sealed_blocks main_keys check_keys (bits 64 nonce)
+            (text_bits plain.now)) }
 {
     let mut before = nonce;
     let mut check_before = encipher(check, nonce);

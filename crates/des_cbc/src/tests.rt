@@ -1,5 +1,5 @@
 ghost use Rattle.std.specs.Prelude.{IsTrue};
-ghost use Rattle.des_cbc.specs.Shapes.{
+ghost use Rattle.des_cbc.specs.inside.Shapes.{
   initial_has_shape,
   primitive_has_shape,
   choice_1_has_shape,

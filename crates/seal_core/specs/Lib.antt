@@ -1,5 +1,4 @@
 pub mod Blocks
 pub mod Sealing
 pub mod Clear
-pub mod Parts
-pub mod ClearLaws
+pub mod inside

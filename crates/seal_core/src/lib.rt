@@ -37,7 +37,8 @@ pub trait Seal: Drop {
         requires some { 0 < length plain.old }
         requires whole { length plain.old % 8 ≡ 0 }
         requires room { length sealed.now ≡ length plain.old + 16 }
-        ensures opened { IfSome result (λ nonce. OpensTo sealed_text keys.now sealed.now nonce plain.new) }
+        ensures opened { IfSome result (λ nonce. OpensTo sealed_text keys.now sealed.now nonce
+            plain.new) }
         ensures alone { (nonce body : List ℕ) → OpensTo sealed_text keys.now sealed.now nonce body
             → (result ≡ Some nonce) × (plain.new ≡ body) }
         ensures zeros { IfNone result (plain.new ≡ replicate (length plain.old) 0) };

@@ -13,7 +13,8 @@ pub record HasParts (text first middle last : List ℕ) (n : ℕ) : Type 0 where
 parts_of : (first middle last : List ℕ) (n : ℕ) → length first ≡ 8 → length middle ≡ n
     → HasParts (first ++ (middle ++ last)) first middle last n
 parts_of first middle last n hf hm =
-    let rest : drop 8 (first ++ (middle ++ last)) ≡ middle ++ last = drop_at first (middle ++ last) 8 hf in
+    let rest : drop 8 (first ++ (middle ++ last)) ≡ middle ++ last =
+        drop_at first (middle ++ last) 8 hf in
     record {
       first_is = take_at first (middle ++ last) 8 hf;
       middle_is = ap (take n) rest ∙ take_at middle last n hm;
@@ -22,17 +23,22 @@ parts_of first middle last n hf hm =
           ∙ drop_at (first ++ middle) last (8 + n) (omega (arith, length-append first middle));
     }
 
-pub parts : (text first middle last : List ℕ) (n : ℕ) → text ≡ first ++ middle ++ last → length first ≡ 8 → length last ≡ 8 → length text ≡ n + 16
+pub parts : (text first middle last : List ℕ) (n : ℕ) → text ≡ first ++ middle ++ last
+    → length first ≡ 8 → length last ≡ 8 → length text ≡ n + 16
     → HasParts text first middle last n
 parts text first middle last n e hf hl h =
     let whole : text ≡ first ++ (middle ++ last) = e ∙ append_assoc first middle last in
-    let sum : length text ≡ 8 + (length middle + 8) = ap length whole ∙ length-append first (middle ++ last) ∙ ap₂ (λ (a b : ℕ). a + b) hf (length-append middle last ∙ ap (λ (k : ℕ). length middle + k) hl) in
+    let sum : length text ≡ 8 + (length middle + 8) = ap length whole
+        ∙ length-append first (middle ++ last)
+        ∙ ap₂ (λ (a b : ℕ). a + b) hf (length-append middle last
+        ∙ ap (λ (k : ℕ). length middle + k) hl) in
     rw whole (parts_of first middle last n hf (omega arith))
 
 append_below : (xs ys : List ℕ) → AreBytes xs → AreBytes ys → (i : ℕ) → get_or (xs ++ ys) i 0 < 256
 append_below [] ys hx hy i = hy.below i
 append_below (x ∷ xs) ys hx hy zero = hx.below 0
-append_below (x ∷ xs) ys hx hy (suc i) = append_below xs ys (record { below = λ j. hx.below (suc j) }) hy i
+append_below (x ∷ xs) ys hx hy (suc i) =
+    append_below xs ys (record { below = λ j. hx.below (suc j) }) hy i
 
 pub AreBytes-append : (xs ys : List ℕ) → AreBytes xs → AreBytes ys → AreBytes (xs ++ ys)
 AreBytes-append xs ys hx hy = record { below = append_below xs ys hx hy }
@@ -66,9 +72,11 @@ pub AreBytes-take : (n : ℕ) (xs : List ℕ) → AreBytes xs → AreBytes (take
 AreBytes-take n xs h = record { below = take_below n xs h }
 
 -- a text is the three parts that are taken out of it
-pub whole_of : (text first middle last : List ℕ) (n : ℕ) → first ≡ take 8 text → middle ≡ take n (drop 8 text) → last ≡ drop (8 + n) text
+pub whole_of : (text first middle last : List ℕ) (n : ℕ) → first ≡ take 8 text
+    → middle ≡ take n (drop 8 text) → last ≡ drop (8 + n) text
     → text ≡ first ++ middle ++ last
 whole_of text first middle last n hf hm hl =
     let rest : drop (8 + n) text ≡ drop n (drop 8 text) = sym (drop-drop n 8 text) in
-    let tail : take n (drop 8 text) ++ drop (8 + n) text ≡ drop 8 text = ap (λ (t : List ℕ). take n (drop 8 text) ++ t) rest ∙ take-append-drop n (drop 8 text) in
+    let tail : take n (drop 8 text) ++ drop (8 + n) text ≡ drop 8 text =
+        ap (λ (t : List ℕ). take n (drop 8 text) ++ t) rest ∙ take-append-drop n (drop 8 text) in
     rw (hf, hm, hl, append_assoc, tail) (sym (take-append-drop 8 text))

@@ -1,7 +1,7 @@
 use Rattle.std.proofs.Common.{◌≡◌, ◌*◌, ◌/◌, ◌++◌, map, reverse, take, length}
 use Rattle.des_cbc.specs.Bits.{bits, text_bytes}
 use Rattle.des_cbc.specs.Chaining.{unchain}
-use Rattle.des_cbc.specs.Words.{round_key}
+use Rattle.des_cbc.specs.inside.Words.{round_key}
 use Rattle.des_cbc.proofs.ChainWalk.{rest_bits}
 use Rattle.des_cbc.proofs.chaining.cbc_decrypt.Given as goal
 

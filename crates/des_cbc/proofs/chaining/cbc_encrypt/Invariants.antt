@@ -1,7 +1,7 @@
 use Rattle.std.proofs.Common.{◌≡◌, ◌*◌, ◌/◌, ◌++◌, map, take, length}
 use Rattle.des_cbc.specs.Bits.{text_bytes}
 use Rattle.des_cbc.specs.Chaining.{chain}
-use Rattle.des_cbc.specs.Words.{round_key, unpermuted}
+use Rattle.des_cbc.specs.inside.Words.{round_key, unpermuted}
 use Rattle.des_cbc.proofs.ChainWalk.{rest_bits}
 use Rattle.des_cbc.proofs.chaining.cbc_encrypt.Given as goal
 

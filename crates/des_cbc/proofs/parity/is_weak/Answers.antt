@@ -11,7 +11,8 @@ read_again (x ∷ xs) zero d e h = refl
 read_again (x ∷ xs) (suc k) d e h = read_again xs k d e (omega arith)
 
 some_or_none : (P : List ℕ → Type 0) (xs : List (List ℕ)) (r : Bool)
-    → MatchBool r ((k : ℕ) × (k < length xs) × HoldsAt P xs k) (AllWithin (λ x. P x → ⊥) xs 0 (length xs)) → (r ≡ true → Any P xs) × (Any P xs → r ≡ true)
+    → MatchBool r ((k : ℕ) × (k < length xs) × HoldsAt P xs k) (AllWithin (λ x. P x → ⊥) xs 0 (length xs))
+    → (r ≡ true → Any P xs) × (Any P xs → r ≡ true)
 some_or_none P xs true h = (
   λ _. (h.0, get_or xs h.0 [], h.1, read_again xs h.0 [] (get_or xs h.0 []) h.1, h.2 []),
   λ _. refl,
@@ -25,4 +26,6 @@ pub returns : goal.returns
 returns c =
     let key = c.args.key.now in
     some_or_none (SameKey key) weak_keys c.any.result
-    (cases_from_any _ _ _ (SameKey key) (λ w. SameKey key w → ⊥) c.any.ensures.ran (YieldsList-from_slice weak_keys c.iter.ensures.rest) (λ x q k. search (rules, tests)) (λ x q k. search (rules, tests)))
+    (cases_from_any _ _ _ (SameKey key) (λ w. SameKey key w → ⊥) c.any.ensures.ran
+        (YieldsList-from_slice weak_keys c.iter.ensures.rest) (λ x q k. search (rules, tests))
+        (λ x q k. search (rules, tests)))

@@ -13,5 +13,6 @@ returns c =
     let b = read_is y c.args.b.now c.from_be_bytes-2.ensures in
     let same = Decides-eqb (kept x) (kept y) in (
       λ t. ap without_parity (sym a) ∙ same_without x y (omega arith) (omega arith) (same.0 t) ∙ ap without_parity b,
-      λ e. let k = same.1 (same_kept x y (omega arith) (omega arith) (ap without_parity a ∙ e ∙ ap without_parity (sym b))) in k,
+      λ e. let k = same.1 (same_kept x y (omega arith) (omega arith)
+          (ap without_parity a ∙ e ∙ ap without_parity (sym b))) in k,
     )

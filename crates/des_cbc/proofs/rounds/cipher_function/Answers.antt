@@ -2,7 +2,7 @@ use Rattle.std.proofs.Common.{ℕ, ◌/◌, ◌^◌, ap, ◌∙◌, bit_and, ari
 use Rattle.std.specs.Int.Bits.{and_mask}
 use Rattle.des_cbc.specs.Bits.{bits}
 use Rattle.des_cbc.specs.Cipher.{cipher_function}
-use Rattle.des_cbc.specs.Words.{groups}
+use Rattle.des_cbc.specs.inside.Words.{groups}
 use Rattle.des_cbc.proofs.SelectionWords.{cipher_function_is}
 use Rattle.des_cbc.proofs.rounds.cipher_function.Goals as goal
 

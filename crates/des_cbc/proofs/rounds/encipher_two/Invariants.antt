@@ -1,6 +1,6 @@
 use Rattle.std.proofs.Common.{◌≡◌, ◌*◌, ◌/◌, ◌^◌, bit_and, map, drop}
 use Rattle.des_cbc.specs.Cipher.{rounds}
-use Rattle.des_cbc.specs.Words.{round_key}
+use Rattle.des_cbc.specs.inside.Words.{round_key}
 use Rattle.des_cbc.proofs.RoundWalk.{halves}
 use Rattle.des_cbc.proofs.rounds.encipher_two.Given as goal
 

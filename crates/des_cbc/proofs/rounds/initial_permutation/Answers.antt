@@ -1,6 +1,6 @@
 use Rattle.std.proofs.Common.{◌≡◌, ap, ◌∙◌, arith}
 use Rattle.des_cbc.specs.Bits.{bits}
-use Rattle.des_cbc.specs.Words.{initial_word}
+use Rattle.des_cbc.specs.inside.Words.{initial_word}
 use Rattle.des_cbc.proofs.Permutations.{initial_is}
 use Rattle.des_cbc.proofs.rounds.initial_permutation.Goals as goal
 

@@ -1,6 +1,6 @@
 use Rattle.std.proofs.Common.{◌≡◌, ap, ◌∙◌, arith}
 use Rattle.des_cbc.specs.Bits.{bits}
-use Rattle.des_cbc.specs.Words.{final_word}
+use Rattle.des_cbc.specs.inside.Words.{final_word}
 use Rattle.des_cbc.proofs.Permutations.{final_is}
 use Rattle.des_cbc.proofs.rounds.inverse_permutation.Goals as goal
 

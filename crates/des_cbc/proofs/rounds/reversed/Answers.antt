@@ -1,5 +1,5 @@
 use Rattle.std.proofs.Common.{map, ap, ◌∙◌}
-use Rattle.des_cbc.specs.Words.{round_key}
+use Rattle.des_cbc.specs.inside.Words.{round_key}
 use Rattle.des_cbc.proofs.Blocks.{map-reverse}
 use Rattle.des_cbc.proofs.rounds.reversed.Goals as goal
 

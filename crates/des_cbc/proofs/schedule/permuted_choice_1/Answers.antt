@@ -1,6 +1,6 @@
 use Rattle.std.proofs.Common.{◌≡◌, ℕ, ap, ◌∙◌, arith}
 use Rattle.des_cbc.specs.Bits.{bits}
-use Rattle.des_cbc.specs.Words.{columns, gathered}
+use Rattle.des_cbc.specs.inside.Words.{columns, gathered}
 use Rattle.des_cbc.proofs.Permutations.{choice_is}
 use Rattle.des_cbc.proofs.schedule.permuted_choice_1.Goals as goal
 

@@ -6,7 +6,8 @@ pub loop-j-init : goal.loop-j-init
 loop-j-init c = none_chosen c.args.halves
 
 pub loop-j-preserved : goal.loop-j-preserved
-loop-j-preserved c = more_chosen c.args.halves c.loop-j.key c.loop-j.j c.chosen-key.result c.loop-j.invariant c.chosen-key.ensures
+loop-j-preserved c = more_chosen c.args.halves c.loop-j.key c.loop-j.j c.chosen-key.result c.loop-j.invariant
+    c.chosen-key.ensures
 
 pub returns : goal.returns
 returns c = all_chosen c.args.halves c.loop-j.key c.loop-j.j c.requires (omega arith) c.loop-j.invariant

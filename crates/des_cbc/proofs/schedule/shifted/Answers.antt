@@ -1,6 +1,6 @@
 use Rattle.std.proofs.Common.{◌≡◌, ℕ, ◌<◌, ◌^◌, ◌⊎◌, inl, inr, ap, ◌∙◌, arith}
 use Rattle.des_cbc.specs.Bits.{bits}
-use Rattle.des_cbc.specs.Words.{turned_word}
+use Rattle.des_cbc.specs.inside.Words.{turned_word}
 use Rattle.des_cbc.proofs.KeyWords.{turned_halves, turned_once, turned_twice}
 use Rattle.des_cbc.proofs.schedule.shifted.Goals as goal
 
@@ -14,7 +14,8 @@ two : (n : ℕ) → ((n ≡ 1) ⊎ (n ≡ 2)) → (n ≡ 1 → ⊥) → n ≡ 2
 two n h k = elim h [ inl e ↦ absurd (k e) | inr e ↦ e ]
 
 pub returns-then-shift-eq1-clause-same : goal.returns-then-shift-eq1-clause-same
-returns-then-shift-eq1-clause-same c = once c.args.shift c.args.halves _ (omega arith) c.requires.small c.turned.ensures.same
+returns-then-shift-eq1-clause-same c = once c.args.shift c.args.halves _ (omega arith) c.requires.small
+    c.turned.ensures.same
 
 pub returns-else-shift-eq1-clause-same : goal.returns-else-shift-eq1-clause-same
 returns-else-shift-eq1-clause-same c =

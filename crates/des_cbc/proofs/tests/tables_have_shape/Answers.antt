@@ -1,7 +1,7 @@
 use Rattle.std.proofs.Common.{refl}
 use Rattle.des_cbc.specs.Tables.{initial, primitive, choice_1, choice_2}
 use Rattle.des_cbc.specs.Selections.{select_1, select_2, select_3, select_4, select_5, select_6, select_7, select_8}
-use Rattle.des_cbc.specs.Shapes.{holds_each_once, initial_has_shape, primitive_has_shape, choice_1_has_shape, choice_2_has_shape, selections_have_shape}
+use Rattle.des_cbc.specs.inside.Shapes.{holds_each_once, initial_has_shape, primitive_has_shape, choice_1_has_shape, choice_2_has_shape, selections_have_shape}
 use Rattle.des_cbc.proofs.tests.tables_have_shape.Goals as goal
 
 pub returns-clause-initial : goal.returns-clause-initial

@@ -25,7 +25,8 @@ loop-i-preserved c =
     record {
       sixteen = length-set c.loop-i.keys c.loop-i.i _ ∙ i.sixteen;
       below = c.shifted-halves.ensures.below;
-      done = next_key c.loop-i.keys shifts c.loop-i.i c.loop-i.halves c.shifted-halves.result c.permuted_choice_2.result _ i.sixteen refl (omega arith) small
+      done = next_key c.loop-i.keys shifts c.loop-i.i c.loop-i.halves c.shifted-halves.result
+          c.permuted_choice_2.result _ i.sixteen refl (omega arith) small
           c.shifted-halves.ensures.same c.permuted_choice_2.ensures i.done;
     }
 
@@ -33,7 +34,8 @@ pub returns : goal.returns
 unfolding schedule block_bits shifts
 returns c =
     let i = c.loop-i.invariant in
-    let same : bits 56 c.permuted_choice_1-halves.result ≡ permute choice_1 (bits 64 (from_be_bytes w64 c.args.key.now)) =
+    let same : bits 56 c.permuted_choice_1-halves.result
+        ≡ permute choice_1 (bits 64 (from_be_bytes w64 c.args.key.now)) =
     c.permuted_choice_1-halves.ensures.same ∙ ap (λ (n : ℕ). permute choice_1 (bits 64 n)) c.from_be_bytes.ensures in
     all_keys c.loop-i.keys shifts c.loop-i.i _ _ _ i.sixteen refl (omega arith) i.done
     ∙ ap (λ (b : List Bool). round_keys shifts (take 28 b) (drop 28 b)) same

@@ -1,0 +1,6 @@
+pub mod Words
+pub mod Shapes
+pub mod BitLaws
+pub mod CipherLaws
+pub mod TextLaws
+pub mod ChainLaws
