@@ -1,0 +1,209 @@
+-- An event gives one message at most: the one of which it hands over a piece.
+use Rattle.std.proofs.Common.{◌≡◌, ◌≢◌, ℕ, zero, suc, ◌+◌, ◌<◌, ◌≤◌, List, [], ◌∷◌, ◌&&◌, length, map, Bool, true, false, refl, sym, ap, ap₂, subst, ◌∙◌, inl, inr, arith}
+use Rattle.std.specs.Prelude.{◌==◌, filter, bytes_eq, if◌then◌else◌}
+use Rattle.std.specs.List.{flat_map, range_with_len}
+use Rattle.std.proofs.lemmas.Bool.Decides.{nat_tests}
+use Rattle.std.proofs.lemmas.Option.{slice_get_within}
+use Rattle.std.proofs.lemmas.Slice.Eq.{bytes_eq-Decides}
+use Rattle.levels.specs.declared.level.Party.{Party}
+use Rattle.levels.specs.Rosters.{is_same_party}
+use Rattle.events.specs.declared.event.Stream.{Stream}
+use Rattle.machine.specs.Events.{Event, Send, Ask, Arrive, Carry, Forge, Tamper}
+use Rattle.machine.specs.Setup.{Setup}
+use Rattle.machine.specs.Machine.{State, piece_frame, is_between, gives, Message, message_of, given_from, given_to, parties}
+use Rattle.machine.specs.FalseBytes.{IsFrame}
+use Rattle.machine.specs.Laws.{HandsOver, OneFrame, FramesApart}
+use Rattle.machine.proofs.Basics.{bool_cases, same_party, own_party}
+use Rattle.machine.proofs.Giving.{gives_what_it_hands}
+use Rattle.machine.proofs.Apart.{is_in, Apart, only_one}
+
+-- an event that gives message j of s to u gives no other to u
+abbrev pub GivesAlone : Setup → State → Event → Party → Party → ℕ → Type 0
+GivesAlone m x e s u j = (s' : Party) (j' : ℕ) → gives m x e s' u j' ≡ true → (s' ≡ s) × (j' ≡ j)
+
+two : (a b : Bool) → (a && b) ≡ true → (a ≡ true) × (b ≡ true)
+two true true h = (refl, refl)
+two true false h = cc
+two false b h = cc
+
+same_number : (a b : ℕ) → (a == b) ≡ true → a ≡ b
+same_number a b h = grind (arith, nat_tests)
+
+-- what is between s and u comes from s
+from_of : (stream : Stream) (at s u : Party) → is_between stream at s u ≡ true → stream.from ≡ s
+from_of stream at s u h =
+    same_party stream.from s
+    (two (is_same_party stream.from s) (is_same_party stream.to u) (two (is_same_party stream.from s
+    && is_same_party stream.to u) (is_same_party at u) h).0).0
+
+named : (stream : Stream) (at s s' u : Party) (k j j' : ℕ) → (is_between stream at s u && k == j) ≡ true
+    → (is_between stream at s' u && k == j') ≡ true → (s' ≡ s) × (j' ≡ j)
+named stream at s s' u k j j' one other =
+    let a = two (is_between stream at s u) (k == j) one in
+    let b = two (is_between stream at s' u) (k == j') other in (
+      sym (from_of stream at s' u b.0) ∙ from_of stream at s u a.0,
+      sym (same_number k j' b.1)
+          ∙ same_number k j a.1,
+    )
+
+-- a Forge hands over a piece exactly where its bytes are the piece's frame
+pub forged : (m : Setup) (x : State) (at : Party) (bytes : List ℕ) (s u : Party) (j i : ℕ)
+    → HandsOver m x (Forge at bytes) s u j i → IsFrame m x s at j i bytes
+forged m x at bytes s u j i h =
+    let t = two (is_same_party at u) (bytes_eq bytes (piece_frame m s u j h.body i)) h.hands in
+    subst (λ v. IsFrame m x s v j i bytes) (sym (same_party at u t.0))
+    (record {
+      body = h.body;
+      sent = h.sent;
+      piece = h.piece;
+      same =
+          (bytes_eq-Decides bytes (piece_frame m s u j h.body i)).0 t.1;
+    })
+
+-- an event hands over pieces of one message alone
+hands_one : (m : Setup) (x : State) (e : Event) (s s' u : Party) (j j' i i' : ℕ) → OneFrame m x e
+    → HandsOver m x e s u j i → HandsOver m x e s' u j' i' → (s' ≡ s) × (j' ≡ j)
+hands_one m x (Arrive stream message piece at) s s' u j j' i i' one h h' =
+    named stream at s s' u message j j' (two (is_between stream at s u && message == j) (piece == i) h.hands).0
+    (two (is_between stream at s' u && message == j') (piece == i') h'.hands).0
+hands_one m x (Carry stream message at) s s' u j j' i i' one h h' =
+    named stream at s s' u message j j' h.hands h'.hands
+hands_one m x (Forge at bytes) s s' u j j' i i' one h h' =
+    let same = one s s' j j' i i' (forged m x at bytes s u j i h) (forged m x at bytes s' u j' i' h') in
+    (sym same.0, sym same.1)
+hands_one m x (Send from to message) s s' u j j' i i' one h h' = let none = h.hands in cc
+hands_one m x (Ask from call) s s' u j j' i i' one h h' = let none = h.hands in cc
+hands_one m x (Tamper stream message piece at edits) s s' u j j' i i' one h h' = let none = h.hands in cc
+
+pub one_frame : (m : Setup) (x : State) (e : Event) → FramesApart m x → OneFrame m x e
+one_frame m x (Forge at bytes) apart = λ s s' j j' i i' a b. apart s s' at j j' i i' bytes a b
+one_frame m x (Send from to message) apart = tt
+one_frame m x (Ask from call) apart = tt
+one_frame m x (Arrive stream message piece at) apart = tt
+one_frame m x (Carry stream message at) apart = tt
+one_frame m x (Tamper stream message piece at edits) apart = tt
+
+pub gives_alone : (m : Setup) (x : State) (e : Event) (s u : Party) (j : ℕ) → OneFrame m x e
+    → gives m x e s u j ≡ true → GivesAlone m x e s u j
+gives_alone m x e s u j one given = λ s' j' given'. (
+    let a = gives_what_it_hands m x e s u j given in
+    let b = gives_what_it_hands m x e s' u j' given' in
+    hands_one m x e s s' u j j' a.0 b.0 one a.1 b.1)
+
+none_passes : (P : ℕ → Bool) (xs : List ℕ) → ((k : ℕ) → P k ≡ false) → filter P xs ≡ []
+none_passes P [] none = refl
+none_passes P (x ∷ xs) none = rw (none x) (none_passes P xs none)
+
+past_it : (P : ℕ → Bool) (j a n : ℕ) → ((k : ℕ) → P k ≡ true → k ≡ j) → j < a
+    → filter P (range_with_len a n) ≡ []
+past_it P j a zero only lt = refl
+past_it P j a (suc n) only lt = elim (bool_cases (P a)) [
+  | inl on ↦ (let same = only a on in absurd (omega (arith, same)))
+  | inr off ↦ rw off (past_it P j (a + 1) n only (omega arith))
+]
+
+filter_one : (P : ℕ → Bool) (j a n : ℕ) → P j ≡ true → ((k : ℕ) → P k ≡ true → k ≡ j) → a ≤ j → j < a + n
+    → filter P (range_with_len a n) ≡ j ∷ []
+filter_one P j a zero on only le lt = absurd (omega arith)
+filter_one P j a (suc n) on only le lt = elim (bool_cases (P a)) [
+  | inl here ↦
+      (let same =
+      only a here in
+      rw here (ap₂ (λ (k : ℕ) (ks : List ℕ). k ∷ ks) same (past_it P j (a + 1) n only (omega (arith, same)))))
+  | inr other ↦
+      (let differ : a ≢ j =
+      λ same. (let t : P a ≡ true = ap P same ∙ on in cc) in
+      rw other (filter_one P j (a + 1) n on only (omega arith) (omega arith)))
+]
+
+not_of_other : (m : Setup) (x : State) (e : Event) (s s' u : Party) (j k : ℕ) → GivesAlone m x e s u j
+    → is_same_party s' s ≡ false → gives m x e s' u k ≡ false
+not_of_other m x e s s' u j k only differ = elim (bool_cases (gives m x e s' u k)) [
+  | inl on ↦
+      (let same : is_same_party s' s ≡ true = ap (λ t. is_same_party t s) (only s' k on).0 ∙ own_party s in cc)
+  | inr off ↦ off
+]
+
+only_its : {A : Type 0} (f : Party → List A) (s : Party) → ((t : Party) → is_same_party t s ≡ false → f t ≡ [])
+    → (t : Party) → f t ≡ (if is_same_party t s then f t else [])
+only_its f s none t =
+    elim (bool_cases (is_same_party t s)) [ inl here ↦ rw here | inr other ↦ rw (other, none t other) ]
+
+-- flattened, where all but one of different parties give nothing
+alone : {A : Type 0} (f : Party → List A) (s : Party) (ts : List Party) → Apart ts → is_in s ts ≡ true
+    → ((t : Party) → is_same_party t s ≡ false → f t ≡ []) → flat_map f ts ≡ f s
+alone f s ts apart some none =
+    ap (λ g. flat_map g ts) (λ i t. only_its f s none t i) ∙ only_one s f ts apart some
+
+pub given_one : (m : Setup) (x : State) (e : Event) (s u : Party) (j : ℕ) → Apart (parties m.roster)
+    → is_in s (parties m.roster) ≡ true → gives m x e s u j ≡ true → GivesAlone m x e s u j
+    → given_to m x e u ≡ message_of s (x.sent s u) j ∷ []
+given_one m x e s u j apart some given only =
+    let t = gives_what_it_hands m x e s u j given in
+    let within : j < length (x.sent s u) = slice_get_within (x.sent s u) j t.1.body t.1.sent in
+    alone (given_from m x e u) s (parties m.roster) apart some
+    (λ s' differ. ap (map (message_of s' (x.sent s' u)))
+    (none_passes (gives m x e s' u) (range_with_len 0 (length (x.sent s' u)))
+    (λ k. not_of_other m x e s s' u j k only differ)))
+    ∙ ap (map (message_of s (x.sent s u)))
+    (filter_one (gives m x e s u) j 0 (length (x.sent s u)) given (λ k on. (only s k on).1) (omega arith)
+    (omega arith))
+
+none_from : (m : Setup) (x : State) (e : Event) (u : Party) (ts : List Party)
+    → ((s : Party) (j : ℕ) → gives m x e s u j ≡ false) → flat_map (given_from m x e u) ts ≡ []
+none_from m x e u [] none = refl
+none_from m x e u (t ∷ ts) none =
+    rw (none_passes (gives m x e t u) (range_with_len 0 (length (x.sent t u))) (none t))
+    (none_from m x e u ts none)
+
+pub given_none : (m : Setup) (x : State) (e : Event) (u : Party)
+    → ((s : Party) (j : ℕ) → gives m x e s u j ≡ false) → given_to m x e u ≡ []
+given_none m x e u none = none_from m x e u (parties m.roster) none
+
+-- ---- what a named piece or message gives, for the engine
+
+abbrev given_if : Bool → Message → List Message
+given_if on l = if on then l ∷ [] else []
+
+none_of : (m : Setup) (x : State) (e : Event) (s u : Party) (j : ℕ) → gives m x e s u j ≡ false
+    → ((s' : Party) (j' : ℕ) → gives m x e s' u j' ≡ true → (s' ≡ s) × (j' ≡ j)) → (s' : Party) (j' : ℕ)
+    → gives m x e s' u j' ≡ false
+none_of m x e s u j off only s' j' = elim (bool_cases (gives m x e s' u j')) [
+  | inl on ↦
+      (let t = only s' j' on in let same : gives m x e s u j ≡ true =
+      sym (ap₂ (λ (a : Party) (b : ℕ). gives m x e a u b) t.0 t.1) ∙ on in cc)
+  | inr other ↦ other
+]
+
+-- where an event gives one message alone, if it gives it
+by_one : (m : Setup) (x : State) (e : Event) (s u : Party) (j : ℕ) → Apart (parties m.roster)
+    → is_in s (parties m.roster) ≡ true
+    → ((s' : Party) (j' : ℕ) → gives m x e s' u j' ≡ true → (s' ≡ s) × (j' ≡ j))
+    → given_to m x e u ≡ given_if (gives m x e s u j) (message_of s (x.sent s u) j)
+by_one m x e s u j apart known only = elim (bool_cases (gives m x e s u j)) [
+  | inl on ↦ rw on (given_one m x e s u j apart known on only)
+  | inr off ↦ rw off (given_none m x e u (λ s' j'. none_of m x e s u j off only s' j'))
+]
+
+pub given_by_arrive : (m : Setup) (x : State) (stream : Stream) (j i : ℕ) (at : Party)
+    → Apart (parties m.roster) → is_in stream.from (parties m.roster) ≡ true
+    → given_to m x (Arrive stream j i at) at
+    ≡ given_if (gives m x (Arrive stream j i at) stream.from at j)
+    (message_of stream.from (x.sent stream.from at) j)
+given_by_arrive m x stream j i at apart known = by_one m x (Arrive stream j i at) stream.from at j apart known
+    (λ s' j' on. (let h = (gives_what_it_hands m x (Arrive stream j i at) s' at j' on).1.hands in
+    let t =
+    two (is_between stream at s' at) (j == j') (two (is_between stream at s' at
+    && j == j') (i == (gives_what_it_hands m x (Arrive stream j i at) s' at j' on).0) h).0 in
+    (sym (from_of stream at s' at t.0), sym (same_number j j' t.1))))
+
+pub given_by_carry : (m : Setup) (x : State) (stream : Stream) (j : ℕ) (at : Party) → Apart (parties m.roster)
+    → is_in stream.from (parties m.roster) ≡ true
+    → given_to m x (Carry stream j at) at
+    ≡ given_if (gives m x (Carry stream j at) stream.from at j)
+    (message_of stream.from (x.sent stream.from at) j)
+given_by_carry m x stream j at apart known = by_one m x (Carry stream j at) stream.from at j apart known
+    (λ s' j' on. (let t =
+    two (is_between stream at s' at) (j == j')
+    (gives_what_it_hands m x (Carry stream j at) s' at j' on).1.hands in
+    (sym (from_of stream at s' at t.0), sym (same_number j j' t.1))))

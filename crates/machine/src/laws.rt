@@ -1,0 +1,157 @@
+ghost use Rattle.std.specs.Prelude.{◌≡◌, ◌↔◌, ◌⊎◌, ℕ, ◌≤◌, ◌++◌, ◌∷◌, [], ◌&&◌, not, length, List, true, false, Some, slice_get};
+ghost use Rattle.levels.specs.declared.level.Level.{Level};
+ghost use Rattle.levels.specs.declared.level.Partition.{Partition};
+ghost use Rattle.levels.specs.declared.level.Party.{Party};
+ghost use Rattle.levels.specs.declared.level.Party.TheVariants.{Manager};
+ghost use Rattle.levels.specs.Kept.{IsRoster};
+ghost use Rattle.levels.specs.Order.{is_at_most};
+ghost use Rattle.levels.specs.Rosters.{is_same_party, level_of};
+ghost use Rattle.seal_core.specs.Sealing.{IsSealing};
+ghost use Rattle.file_calls.specs.declared.call.Call.{Call};
+ghost use Rattle.machine.specs.Events.{Event, Ask, Send, Forge, ScriptView};
+ghost use Rattle.machine.specs.Setup.{Setup, setup_of};
+ghost use Rattle.machine.specs.Low.{place_of, is_low, low};
+ghost use Rattle.machine.specs.Sends.{Sending, sending_of};
+ghost use Rattle.machine.specs.Given.{has_piece, has_all, has_later};
+ghost use Rattle.machine.specs.Files.{CallRow};
+ghost use Rattle.machine.specs.Plan.{reply};
+ghost use Rattle.machine.specs.Machine.{State, handed, gives, Message, given_to, after, state, told};
+ghost use Rattle.machine.specs.FalseBytes.{IsFrame, state_at, IsFirstFalse};
+ghost use Rattle.machine.specs.Text.{text_below};
+ghost use Rattle.machine.specs.Laws.{HandsOver, HasArrived, AreInOrder, content_in, ReadsDown, OneFrame, FramesApart, replies_to, StaysAt, AreSmall};
+
+// ---- what arrives and is given
+
+/// A piece has arrived exactly where some earlier event handed it over, of a message that was sent
+/// before.
+pub fn arrived_by_an_event()
+    ensures { (script : ScriptView) (n : ℕ) (s u : Party) (j i : ℕ) → n ≤ length script.events →
+        (HasArrived script n s u j i ↔ (has_piece ((state_at script n).arrived s u) j i ≡ true)) }
+{}
+
+/// An event gives no message but one of which it hands over a piece.
+pub fn gives_what_it_hands_over()
+    ensures { (m : Setup) (x : State) (e : Event) (s u : Party) (j : ℕ) →
+        gives m x e s u j ≡ true → (i : ℕ) × HandsOver m x e s u j i }
+{}
+
+/// What a party is told of another are messages of that other, in the order in which it sent them
+/// to this one, none twice; and the two are partners.
+pub fn messages_are_given_in_order()
+    ensures { (script : ScriptView) (s r : Party) → IsRoster script.roster →
+        AreInOrder script s r }
+{}
+
+/// Where no message is given behind the newest one, a message is given exactly where it becomes
+/// whole and no piece of a greater one was there.
+pub fn one_message_at_a_time()
+    ensures { (m : Setup) (past : List Event) (e : Event) (s u : Party) (j : ℕ) → m.ahead ≡ 0 →
+        (let x = state m past in
+        let message = slice_get (x.sent s u) j in
+        gives m x e s u j ≡ (has_all message (handed m x e s u ++ x.arrived s u) j
+        && not (has_all message (x.arrived s u) j) && not (has_later (x.arrived s u) j))) }
+{}
+
+/// An event gives a party one message at most, where a forged frame is the frame of pieces of one
+/// message at most.
+pub fn one_message_at_most()
+    ensures one { (m : Setup) (x : State) (e : Event) (s s' u : Party) (j j' : ℕ) →
+        OneFrame m x e → gives m x e s u j ≡ true → gives m x e s' u j' ≡ true →
+        (s' ≡ s) × (j' ≡ j) }
+    ensures given { (m : Setup) (x : State) (e : Event) (u : Party) →
+        OneFrame m x e → IsRoster m.roster →
+        (given_to m x e u ≡ []) ⊎ ((l : Message) × (given_to m x e u ≡ l ∷ [])) }
+{}
+
+// ---- events
+
+/// An event changes nothing at a party but the one where it happens.
+pub fn elsewhere_all_stays()
+    ensures { (m : Setup) (e : Event) (x : State) (r : Party) →
+        is_same_party (place_of e) r ≡ false → StaysAt r x (after m e x) }
+{}
+
+/// An Ask does what the Send of its call's spelling does.
+pub fn an_ask_is_its_send()
+    ensures { (m : Setup) (x : State) (from : ℕ) (call : Call) (y : Sending) →
+        sending_of m.roster (Ask from call) ≡ Some y →
+        after m (Ask from call) x ≡ after m (Send from y.to y.message) x }
+{}
+
+/// A forged frame hands over a piece exactly where it is the frame of that piece, of a message
+/// that was sent.
+pub fn a_forged_frame_arrives()
+    ensures { (m : Setup) (x : State) (bytes : List ℕ) (s u : Party) (j i : ℕ) →
+        (HandsOver m x (Forge u bytes) s u j i ↔ IsFrame m x s u j i bytes) }
+{}
+
+/// One event at most is the first at which false bytes open.
+pub fn one_event_is_the_first_false_one()
+    ensures { (script : ScriptView) (n k : ℕ) →
+        IsFirstFalse script n → IsFirstFalse script k → n ≡ k }
+{}
+
+// ---- frames
+
+/// A frame stays the frame of its piece.
+pub fn a_frame_stays()
+    ensures { (m : Setup) (x : State) (e : Event) (s u : Party) (j i : ℕ) (bytes : List ℕ) →
+        IsFrame m x s u j i bytes → IsFrame m (after m e x) s u j i bytes }
+{}
+
+/// Pieces of different messages to one unit have different frames, by the laws of the sealing.
+pub fn frames_are_apart()
+    ensures setup { (m : Setup) (past : List Event) →
+        IsSealing m.sealed → IsRoster m.roster → AreSmall (state m past) →
+        FramesApart m (state m past) }
+    ensures script { (script : ScriptView) (n : ℕ) →
+        IsRoster script.roster → AreSmall (state_at script n) →
+        FramesApart (setup_of script) (state_at script n) }
+{}
+
+// ---- files
+
+/// A reply that has a content is of a block at or below the caller's level, under the version that
+/// stands there; that content was written under that version, for that name and block.
+pub fn files_are_read_down()
+    ensures { (m : Setup) (before : List CallRow) (c : CallRow) (version : ℕ) (content : List ℕ) →
+        content_in (reply m before c) ≡ Some (version, content) →
+        ReadsDown m.roster before c version content }
+{}
+
+/// What a manager unit has sent to a party are the replies to that party's calls, in order.
+pub fn managers_send_replies()
+    ensures { (m : Setup) (past : List Event) (p : Partition) (r : Party) →
+        FramesApart m (state m past) → IsRoster m.roster →
+        (state m past).sent (Manager p) r ≡ replies_to m (Manager p) r (state m past).calls }
+{}
+
+// ---- the low part
+
+/// What a party is told doesn't depend on the events and the plan rows that aren't at or below its
+/// level.
+pub fn only_the_low_part_counts()
+    ensures own { (script : ScriptView) (level : Level) (r : Party) →
+        level_of script.roster r ≡ Some level → told script r ≡ told (low level script) r }
+    ensures below { (script : ScriptView) (level : Level) (r : Party) →
+        is_low script.roster level r ≡ true → told script r ≡ told (low level script) r }
+{}
+
+/// The low part of a low part is the low part.
+pub fn low_part_of_a_low_part()
+    ensures { (script : ScriptView) (own level : Level) → is_at_most own level ≡ true →
+        low own (low level script) ≡ low own script }
+{}
+
+/// Two scripts with one low part tell the same to each party at or below the level.
+pub fn one_low_part_tells_the_same()
+    ensures { (a b : ScriptView) (level own : Level) (r : Party) → low level a ≡ low level b →
+        level_of a.roster r ≡ Some own → is_at_most own level ≡ true →
+        told (low own a) r ≡ told (low own b) r }
+{}
+
+/// Scripts with one low part have one text for the hosts at or below the level.
+pub fn twins_have_one_text()
+    ensures { (level : Level) (a b : ScriptView) →
+        low level a ≡ low level b → text_below level a ≡ text_below level b }
+{}
