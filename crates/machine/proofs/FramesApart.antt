@@ -29,7 +29,7 @@ use Rattle.machine.specs.Machine.{address_of, number_of, piece_frame, state}
 use Rattle.machine.specs.FalseBytes.{state_at}
 use Rattle.machine.specs.Laws.{FramesApart, AreSmall}
 use Rattle.machine.proofs.InOrder.{nothing_sent}
-use Rattle.machine.proofs.Basics.{bool_cases}
+use Rattle.machine.proofs.Basics.{bool_cases, both}
 
 -- ---- a piece whose fields are in their ranges has its own frame
 
@@ -306,14 +306,10 @@ in_one_of roster s u (Some p) (Some q) is is' h =
 in_one_of roster s u None o' is is' h = cc
 in_one_of roster s u (Some p) None is is' h = cc
 
-second : (a b : Bool) → (a && b) ≡ true → b ≡ true
-second true b h = h
-second false b h = cc
-
 in_one : (roster : RosterView) (s u : Party) → is_partner roster s u ≡ true → InOne roster s u
 in_one roster s u h =
     in_one_of roster s u (partition_of roster s) (partition_of roster u) refl refl
-    (second (not (is_same_party s u)) (is_same_partition roster s u) h)
+    (both (not (is_same_party s u)) (is_same_partition roster s u) h).1
 
 partners_of_sent : (m : Setup) (past : List Event) (s u : Party) (j : ℕ) (body : List ℕ)
     → slice_get ((state m past).sent s u) j ≡ Some body → is_partner m.roster s u ≡ true

@@ -15,12 +15,7 @@ use Rattle.untrusted_store.specs.declared.plan.PlanRow.{PlanRow}
 use Rattle.machine.specs.Events.{ScriptView, Event}
 use Rattle.machine.specs.Low.{place_of, is_within, is_low, low}
 use Rattle.machine.specs.Replies.{are_at_most, is_below}
-use Rattle.machine.proofs.Basics.{bool_cases}
-
-both : (a b : Bool) → (a && b) ≡ true → (a ≡ true) × (b ≡ true)
-both true true h = (refl, refl)
-both true false h = cc
-both false b h = cc
+use Rattle.machine.proofs.Basics.{bool_cases, both}
 
 -- a level is at or below itself
 pub at_most_self : (x : Level) → is_at_most x x ≡ true

@@ -10,7 +10,9 @@ pub mod Asked
 pub mod Private
 pub mod Elsewhere
 pub mod LowPart
-pub mod Kept
+pub mod Directories
+pub mod Filing
+pub mod Written
 pub mod ReadDown
 pub mod Single
 pub mod Wording

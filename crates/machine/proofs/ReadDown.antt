@@ -16,7 +16,7 @@ use Rattle.machine.specs.Plan.{question_of, next_action, is_intact, current_cont
 use Rattle.machine.specs.Laws.{content_in, ReadsDown}
 use Rattle.machine.proofs.Basics.{bool_cases}
 use Rattle.machine.proofs.Asked.{asked_below, asked_current}
-use Rattle.machine.proofs.Kept.{stands_written}
+use Rattle.machine.proofs.Written.{stands_written}
 
 -- a reply has this content because the store's answer opened to it, and the call asks for a block with this version
 record Opened (s : Sight) (opened : Option (List ℕ)) (o : Option Call) (version : ℕ) (content : List ℕ) : Type 0

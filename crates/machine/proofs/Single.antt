@@ -13,7 +13,7 @@ use Rattle.machine.specs.Setup.{Setup}
 use Rattle.machine.specs.Machine.{State, piece_frame, is_between, gives, Message, message_of, given_from, given_to, parties}
 use Rattle.machine.specs.FalseBytes.{IsFrame}
 use Rattle.machine.specs.Laws.{HandsOver, OneFrame, FramesApart}
-use Rattle.machine.proofs.Basics.{bool_cases, same_party, own_party}
+use Rattle.machine.proofs.Basics.{bool_cases, both, same_number, same_party, own_party}
 use Rattle.machine.proofs.Giving.{gives_what_it_hands}
 use Rattle.machine.proofs.Apart.{is_in, Apart, only_one}
 
@@ -21,26 +21,18 @@ use Rattle.machine.proofs.Apart.{is_in, Apart, only_one}
 abbrev pub GivesAlone : Setup → State → Event → Party → Party → ℕ → Type 0
 GivesAlone m x e s u j = (s' : Party) (j' : ℕ) → gives m x e s' u j' ≡ true → (s' ≡ s) × (j' ≡ j)
 
-two : (a b : Bool) → (a && b) ≡ true → (a ≡ true) × (b ≡ true)
-two true true h = (refl, refl)
-two true false h = cc
-two false b h = cc
-
-same_number : (a b : ℕ) → (a == b) ≡ true → a ≡ b
-same_number a b h = grind (arith, nat_tests)
-
 -- what is between s and u comes from s
 from_of : (stream : Stream) (at s u : Party) → is_between stream at s u ≡ true → stream.from ≡ s
 from_of stream at s u h =
     same_party stream.from s
-    (two (is_same_party stream.from s) (is_same_party stream.to u) (two (is_same_party stream.from s
+    (both (is_same_party stream.from s) (is_same_party stream.to u) (both (is_same_party stream.from s
     && is_same_party stream.to u) (is_same_party at u) h).0).0
 
 named : (stream : Stream) (at s s' u : Party) (k j j' : ℕ) → (is_between stream at s u && k == j) ≡ true
     → (is_between stream at s' u && k == j') ≡ true → (s' ≡ s) × (j' ≡ j)
 named stream at s s' u k j j' one other =
-    let a = two (is_between stream at s u) (k == j) one in
-    let b = two (is_between stream at s' u) (k == j') other in (
+    let a = both (is_between stream at s u) (k == j) one in
+    let b = both (is_between stream at s' u) (k == j') other in (
       sym (from_of stream at s' u b.0) ∙ from_of stream at s u a.0,
       sym (same_number k j' b.1)
           ∙ same_number k j a.1,
@@ -50,7 +42,7 @@ named stream at s s' u k j j' one other =
 pub forged : (m : Setup) (x : State) (at : Party) (bytes : List ℕ) (s u : Party) (j i : ℕ)
     → HandsOver m x (Forge at bytes) s u j i → IsFrame m x s at j i bytes
 forged m x at bytes s u j i h =
-    let t = two (is_same_party at u) (bytes_eq bytes (piece_frame m s u j h.body i)) h.hands in
+    let t = both (is_same_party at u) (bytes_eq bytes (piece_frame m s u j h.body i)) h.hands in
     subst (λ v. IsFrame m x s v j i bytes) (sym (same_party at u t.0))
     (record {
       body = h.body;
@@ -64,8 +56,8 @@ forged m x at bytes s u j i h =
 hands_one : (m : Setup) (x : State) (e : Event) (s s' u : Party) (j j' i i' : ℕ) → OneFrame m x e
     → HandsOver m x e s u j i → HandsOver m x e s' u j' i' → (s' ≡ s) × (j' ≡ j)
 hands_one m x (Arrive stream message piece at) s s' u j j' i i' one h h' =
-    named stream at s s' u message j j' (two (is_between stream at s u && message == j) (piece == i) h.hands).0
-    (two (is_between stream at s' u && message == j') (piece == i') h'.hands).0
+    named stream at s s' u message j j' (both (is_between stream at s u && message == j) (piece == i) h.hands).0
+    (both (is_between stream at s' u && message == j') (piece == i') h'.hands).0
 hands_one m x (Carry stream message at) s s' u j j' i i' one h h' =
     named stream at s s' u message j j' h.hands h'.hands
 hands_one m x (Forge at bytes) s s' u j j' i i' one h h' =
@@ -193,7 +185,7 @@ pub given_by_arrive : (m : Setup) (x : State) (stream : Stream) (j i : ℕ) (at 
 given_by_arrive m x stream j i at apart known = by_one m x (Arrive stream j i at) stream.from at j apart known
     (λ s' j' on. (let h = (gives_what_it_hands m x (Arrive stream j i at) s' at j' on).1.hands in
     let t =
-    two (is_between stream at s' at) (j == j') (two (is_between stream at s' at
+    both (is_between stream at s' at) (j == j') (both (is_between stream at s' at
     && j == j') (i == (gives_what_it_hands m x (Arrive stream j i at) s' at j' on).0) h).0 in
     (sym (from_of stream at s' at t.0), sym (same_number j j' t.1))))
 
@@ -204,6 +196,6 @@ pub given_by_carry : (m : Setup) (x : State) (stream : Stream) (j : ℕ) (at : P
     (message_of stream.from (x.sent stream.from at) j)
 given_by_carry m x stream j at apart known = by_one m x (Carry stream j at) stream.from at j apart known
     (λ s' j' on. (let t =
-    two (is_between stream at s' at) (j == j')
+    both (is_between stream at s' at) (j == j')
     (gives_what_it_hands m x (Carry stream j at) s' at j' on).1.hands in
     (sym (from_of stream at s' at t.0), sym (same_number j j' t.1))))
