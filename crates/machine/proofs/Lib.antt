@@ -13,6 +13,7 @@ pub mod LowPart
 pub mod Directories
 pub mod Filing
 pub mod Written
+pub mod FilesRange
 pub mod ReadDown
 pub mod Single
 pub mod Wording
