@@ -30,6 +30,7 @@ use Rattle.machine.specs.FalseBytes.{state_at}
 use Rattle.machine.specs.Laws.{FramesApart, AreSmall}
 use Rattle.machine.proofs.InOrder.{nothing_sent}
 use Rattle.machine.proofs.Basics.{bool_cases, both}
+use Rattle.machine.proofs.Bytes.{AreBytes-cons, AreBytes-nil, AreBytes-zeros, AreBytes-high, length-high}
 
 -- ---- a piece whose fields are in their ranges has its own frame
 
@@ -43,39 +44,6 @@ pub record IsSmall (x : PieceView) : Type 0 where
   pub partition : x.partition < 256
   pub wide : length x.payload ≡ 88
   pub bytes : AreBytes x.payload
-
-one_more : (b : ℕ) (bs : List ℕ) → b < 256 → AreBytes bs → (i : ℕ) → slice_index (b ∷ bs) i < 256
-one_more b bs small rest zero = small
-one_more b bs small rest (suc i) = rest.below i
-
-AreBytes-cons : (b : ℕ) (bs : List ℕ) → b < 256 → AreBytes bs → AreBytes (b ∷ bs)
-AreBytes-cons b bs small rest = record { below = one_more b bs small rest }
-
-none_below : (i : ℕ) → slice_index [] i < 256
-none_below i = omega arith
-
-AreBytes-nil : AreBytes []
-AreBytes-nil = record { below = none_below }
-
-AreBytes-zeros : (n : ℕ) → AreBytes (replicate n 0)
-AreBytes-zeros zero = AreBytes-nil
-AreBytes-zeros (suc n) = AreBytes-cons 0 (replicate n 0) (omega arith) (AreBytes-zeros n)
-
-high : (a : ℕ) → a % 256 < 256
-high a = omega arith
-
-byte_small : (k n : ℕ) → byte_at k n < 256
-byte_small zero n = omega arith
-byte_small (suc k) n = high (n / 256 ^ suc k)
-
-AreBytes-high : (k n : ℕ) → AreBytes (bytes_high_first k n)
-AreBytes-high zero n = AreBytes-nil
-AreBytes-high (suc k) n =
-    AreBytes-cons (byte_at k n) (bytes_high_first k n) (byte_small k n) (AreBytes-high k n)
-
-length-high : (k n : ℕ) → length (bytes_high_first k n) ≡ k
-length-high zero n = refl
-length-high (suc k) n = ap suc (length-high k n)
 
 length-word : (n : ℕ) → length (to_be_bytes w32 n) ≡ 4
 length-word n = length-high 4 n

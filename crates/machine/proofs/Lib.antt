@@ -14,6 +14,8 @@ pub mod Directories
 pub mod Filing
 pub mod Written
 pub mod FilesRange
+pub mod ReplyRange
+pub mod Bytes
 pub mod ReadDown
 pub mod Single
 pub mod Wording
