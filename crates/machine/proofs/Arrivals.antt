@@ -8,8 +8,7 @@ use Rattle.levels.specs.declared.level.Party.{Party}
 use Rattle.machine.specs.Events.{Event, ScriptView}
 use Rattle.machine.specs.Setup.{setup_of}
 use Rattle.machine.specs.Given.{has_piece}
-use Rattle.machine.specs.Machine.{State, handed, after, state}
-use Rattle.machine.specs.FalseBytes.{state_at}
+use Rattle.machine.specs.Machine.{State, handed, after, state, state_at}
 use Rattle.machine.specs.Laws.{HandsOver, HasArrived}
 use Rattle.machine.proofs.Basics.{bool_cases, in_both}
 use Rattle.machine.proofs.Handing.{hands_over, handed_over}

@@ -1,7 +1,7 @@
 -- Tests, parties and lists.
 use Rattle.std.proofs.Common.{◌≡◌, ℕ, zero, suc, List, [], ◌∷◌, ◌++◌, ◌&&◌, ◌||◌, Bool, true, false, Some, refl, ap, ◌⊎◌, inl, inr, arith}
 use Rattle.std.specs.Prelude.{slice_get, ◌==◌}
-use Rattle.std.specs.List.{list_all}
+use Rattle.std.specs.List.{list_all, AllByRecursion}
 use Rattle.std.proofs.lemmas.Bool.Decides.{nat_tests}
 use Rattle.std.proofs.lemmas.List.Folds.{list_any-append}
 use Rattle.levels.specs.declared.level.Party.{Party}
@@ -51,3 +51,8 @@ pub all_still : {A : Type 0} (P Q : A → Bool) (xs : List A) → ((x : A) → P
     → list_all P xs ≡ true → list_all Q xs ≡ true
 all_still P Q [] more h = refl
 all_still P Q (x ∷ xs) more h = grind (arith, nat_tests, more x, all_still P Q xs more)
+
+pub all_joined : {A : Type 0} (Q : A → Type 0) (xs ys : List A) → AllByRecursion Q xs → AllByRecursion Q ys
+    → AllByRecursion Q (xs ++ ys)
+all_joined Q [] ys left right = right
+all_joined Q (x ∷ xs) ys left right = (left.0, all_joined Q xs ys left.1 right)

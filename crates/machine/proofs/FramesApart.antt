@@ -25,8 +25,7 @@ use Rattle.seal_core.specs.Parts.{AreBytes-append, AreBytes-drop, AreBytes-take}
 use Rattle.frame.specs.Frames.{header, plain_of, nonce_of, frame_of}
 use Rattle.machine.specs.Events.{Event, ScriptView}
 use Rattle.machine.specs.Setup.{Setup, sealer, setup_of}
-use Rattle.machine.specs.Machine.{address_of, number_of, piece_frame, state}
-use Rattle.machine.specs.FalseBytes.{state_at}
+use Rattle.machine.specs.Machine.{address_of, number_of, piece_frame, state, state_at}
 use Rattle.machine.specs.Laws.{FramesApart, AreSmall}
 use Rattle.machine.proofs.InOrder.{nothing_sent}
 use Rattle.machine.proofs.Basics.{bool_cases, both}

@@ -16,10 +16,12 @@ pub mod Written
 pub mod FilesRange
 pub mod ReplyRange
 pub mod Bytes
+pub mod Texts
 pub mod ReadDown
 pub mod Single
 pub mod Wording
 pub mod Rows
 pub mod FramesApart
+pub mod Small
 pub mod Twins
 pub mod FirstFalse

@@ -11,7 +11,7 @@ use Rattle.machine.specs.Events.{Event}
 use Rattle.machine.specs.Setup.{Setup}
 use Rattle.machine.specs.Given.{has_piece, has_all, has_later}
 use Rattle.machine.specs.Machine.{State, handed, gives, numbers_given, sent_by, after, state}
-use Rattle.machine.proofs.Basics.{bool_cases, in_both, found_still, all_still}
+use Rattle.machine.proofs.Basics.{all_joined, bool_cases, in_both, found_still, all_still}
 
 -- ---- rising lists
 
@@ -54,11 +54,6 @@ range_rises P a (suc n) = elim (bool_cases (P a)) [
   | inr off ↦ rw off (range_rises P (a + 1) n)
 ]
 
-all_more : (Q : ℕ → Type 0) (xs ys : List ℕ) → AllByRecursion Q xs → AllByRecursion Q ys
-    → AllByRecursion Q (xs ++ ys)
-all_more Q [] ys left right = right
-all_more Q (x ∷ xs) ys left right = (left.0, all_more Q xs ys left.1 right)
-
 firsts : (x : ℕ) (xs ys : List ℕ) → AllByRecursion (λ y. AllByRecursion (λ k. k < y) (x ∷ xs)) ys
     → AllByRecursion (λ y. x < y) ys
 firsts x xs [] h = tt
@@ -73,7 +68,7 @@ joined : (xs ys : List ℕ) → IsRising xs → IsRising ys → AllByRecursion (
     → IsRising (xs ++ ys)
 joined [] ys left right older = right
 joined (x ∷ xs) ys left right older =
-    (all_more (λ k. x < k) xs ys left.0 (firsts x xs ys older), joined xs ys left.1 right (rests x xs ys older))
+    (all_joined (λ k. x < k) xs ys left.0 (firsts x xs ys older), joined xs ys left.1 right (rests x xs ys older))
 
 -- what was given is whole, and stays whole
 abbrev pub AllWhole : State → Party → Party → List ℕ → Type 0
@@ -137,7 +132,7 @@ given_more m e x s r is = record {
       (range_with_len 0 (length (x.sent s r)))
       (λ j on. (let t = parts m x e s r j on in older x s r j (x.given s r) t.1 t.2 is.whole)));
   whole =
-      all_more (λ j. has_all (slice_get ((after m e x).sent s r) j) ((after m e x).arrived s r) j
+      all_joined (λ j. has_all (slice_get ((after m e x).sent s r) j) ((after m e x).arrived s r) j
       ≡ true) (x.given s r) (numbers_given m x e s r)
       (all_whole_still m e x s r (x.given s r) is.whole)
       (filtered (gives m x e s r)

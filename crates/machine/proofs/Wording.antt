@@ -130,7 +130,7 @@ one_or_none m x e u one apart = elim (given_cases m x e u (parties m.roster)) [
   )
 ]
 
-one_call_or_none : (m : Setup) (x : State) (e : Event) (u : Party) → OneFrame m x e → Apart (parties m.roster)
+pub one_call_or_none : (m : Setup) (x : State) (e : Event) (u : Party) → OneFrame m x e → Apart (parties m.roster)
     → (calls_to u (given_to m x e u) ≡ []) ⊎ ((c : CallRow) × (calls_to u (given_to m x e u) ≡ c ∷ []))
 one_call_or_none m x e (Host address) one apart = inl refl
 one_call_or_none m x e (Manager p) one apart = elim (one_or_none m x e (Manager p) one apart) [

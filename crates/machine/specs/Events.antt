@@ -1,5 +1,9 @@
 -- What a script holds. (Stand-ins for their own crate.)
-use Rattle.std.specs.Prelude.{ℕ, List, Option, slice_get}
+use Rattle.std.specs.Prelude.{◌≡◌, ℕ, ◌≤◌, List, length, true, Option, slice_get}
+use Rattle.std.specs.List.{AllByRecursion}
+use Rattle.levels.specs.Kept.{IsRoster}
+use Rattle.seal_core.specs.Blocks.{AreBytes}
+use Rattle.file_calls.specs.Spelling.{is_call}
 use Rattle.levels.specs.declared.level.Party.{Party}
 use Rattle.levels.specs.declared.level.Partition.{Partition}
 use Rattle.levels.specs.Rosters.{RosterView}
@@ -25,3 +29,19 @@ pub record ScriptView : Type 0 where
 
 abbrev pub keys_at : ScriptView → Partition → Option KeyPair
 keys_at script partition = slice_get script.keys partition.0
+
+abbrev pub EventFits : Event → Type 0
+EventFits (Send from to message) = AreBytes message
+EventFits (Ask from call) = is_call call ≡ true
+EventFits (Arrive stream message piece at) = Unit {0}
+EventFits (Carry stream message at) = Unit {0}
+EventFits (Forge at bytes) = Unit {0}
+EventFits (Tamper stream message piece at edits) = Unit {0}
+
+pub record IsEvent (roster : RosterView) (event : Event) : Type 0 where
+  pub fits : EventFits event
+
+pub record IsScript (script : ScriptView) : Type 0 where
+  pub roster : IsRoster script.roster
+  pub room : length script.events ≤ 100000
+  pub events : AllByRecursion (IsEvent script.roster) script.events

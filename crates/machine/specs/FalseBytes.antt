@@ -1,5 +1,5 @@
 -- False frames and false records: bytes that open, but weren't sealed for what they open as.
-use Rattle.std.specs.Prelude.{◌≡◌, ℕ, ◌<◌, ◌≤◌, List, [], ◌∷◌, ◌++◌, length, take, reverse, true, false, Some, slice_get, slice_set, slice_index, bit_xor}
+use Rattle.std.specs.Prelude.{◌≡◌, ℕ, ◌<◌, ◌≤◌, List, [], ◌∷◌, ◌++◌, length, true, false, Some, slice_get, slice_set, slice_index, bit_xor}
 use Rattle.levels.specs.declared.level.Party.{Party}
 use Rattle.levels.specs.Rosters.{partition_of, is_same_partition}
 use Rattle.frame.specs.Pieces.{pieces}
@@ -11,7 +11,7 @@ use Rattle.machine.specs.Setup.{Setup, setup_of}
 use Rattle.machine.specs.Files.{CallRow}
 use Rattle.machine.specs.Replies.{Question}
 use Rattle.machine.specs.Plan.{question_of, next_action, is_intact, store_answer}
-use Rattle.machine.specs.Machine.{State, number_of, piece_frame, calls_by, state}
+use Rattle.machine.specs.Machine.{State, number_of, piece_frame, calls_by, state_at}
 
 -- bytes open in partition p: they have its header, and the rest opens under its keys
 pub record OpensIn (m : Setup) (p : ℕ) (bytes : List ℕ) : Type 0 where
@@ -88,10 +88,6 @@ pub record GivesFalse (m : Setup) (x : State) (e : Event) : Type 0 where
 pub data OpensFalse (m : Setup) (x : State) (e : Event) : Type 0 where
   false_frame : IsFalse m x e → OpensFalse m x e
   false_record : GivesFalse m x e → OpensFalse m x e
-
--- the state after the first n events
-abbrev pub state_at : ScriptView → ℕ → State
-state_at script n = state (setup_of script) (reverse (take n script.events))
 
 -- at none of the first n events false bytes open
 abbrev pub NoneFalse : ScriptView → ℕ → Type 0

@@ -15,8 +15,8 @@ use Rattle.machine.specs.Setup.{Setup, setup_of}
 use Rattle.machine.specs.Files.{CallRow, versions_of, written, files}
 use Rattle.machine.specs.Replies.{Question, is_below, block_version}
 use Rattle.machine.specs.Plan.{question_of, reply}
-use Rattle.machine.specs.Machine.{State, hands, is_answered_on, end_of, told}
-use Rattle.machine.specs.FalseBytes.{IsFrame, state_at}
+use Rattle.machine.specs.Machine.{State, hands, is_answered_on, end_of, told, state_at}
+use Rattle.machine.specs.FalseBytes.{IsFrame}
 
 -- an event hands over piece i of message j from s to u, which was sent before
 pub record HandsOver (m : Setup) (x : State) (e : Event) (s u : Party) (j i : ℕ) : Type 0 where

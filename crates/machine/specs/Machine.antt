@@ -1,7 +1,7 @@
 -- The lattice machine: what was sent, has arrived, was given and was told, by the events alone.
 -- It knows sent lists and sets of arrivals; there is no unit, ring, slot or receive state in it.
 -- Throughout, m is the setup, x the state before an event, and e the event.
-use Rattle.std.specs.Prelude.{ℕ, ◌+◌, List, [], ◌∷◌, ◌++◌, length, map, filter, reverse, Bool, false, ◌==◌, ◌&&◌, Option, None, Some, slice_get, unwrap_or}
+use Rattle.std.specs.Prelude.{ℕ, ◌+◌, List, [], ◌∷◌, ◌++◌, length, map, filter, take, reverse, Bool, false, ◌==◌, ◌&&◌, Option, None, Some, slice_get, unwrap_or}
 use Rattle.std.specs.List.{flat_map, range_with_len}
 use Rattle.std.specs.Str.{bytes_eq}
 use Rattle.levels.specs.declared.level.Partition.{Partition}
@@ -161,6 +161,10 @@ state m [] = record {
   told = λ r. [];
 }
 state m (e ∷ past) = after m e (state m past)
+
+-- the state after the first n events of a script
+abbrev pub state_at : ScriptView → ℕ → State
+state_at script n = state (setup_of script) (reverse (take n script.events))
 
 -- the state after all events of a script
 abbrev pub end_of : ScriptView → State

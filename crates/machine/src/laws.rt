@@ -15,8 +15,8 @@ ghost use Rattle.machine.specs.Sends.{Sending, sending_of};
 ghost use Rattle.machine.specs.Given.{has_piece, has_all, has_later};
 ghost use Rattle.machine.specs.Files.{CallRow};
 ghost use Rattle.machine.specs.Plan.{reply};
-ghost use Rattle.machine.specs.Machine.{State, handed, gives, Message, given_to, after, state, told};
-ghost use Rattle.machine.specs.FalseBytes.{IsFrame, state_at, IsFirstFalse};
+ghost use Rattle.machine.specs.Machine.{State, handed, gives, Message, given_to, after, state, told, state_at};
+ghost use Rattle.machine.specs.FalseBytes.{IsFrame, IsFirstFalse};
 ghost use Rattle.machine.specs.Text.{text_below};
 ghost use Rattle.machine.specs.Laws.{HandsOver, HasArrived, AreInOrder, content_in, ReadsDown, OneFrame, FramesApart, replies_to, StaysAt, AreSmall};
 
