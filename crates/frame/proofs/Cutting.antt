@@ -35,7 +35,9 @@ length-piece_bytes body i = length-take 88 (drop (88 * i) body) ∙ ap (min 88) 
 
 length-padded : (bytes : List ℕ) → length bytes ≤ 88 → length (padded bytes) ≡ 88
 unfolding padded
-length-padded bytes h = length-append bytes (replicate (88 - length bytes) 0) ∙ omega (arith, length-replicate {A = ℕ} (88 - length bytes) 0)
+length-padded bytes h =
+    length-append bytes (replicate (88 - length bytes) 0)
+    ∙ omega (arith, length-replicate {A = ℕ} (88 - length bytes) 0)
 
 drop-padded : (bytes : List ℕ) → drop (length bytes) (padded bytes) ≡ replicate (88 - length bytes) 0
 unfolding padded

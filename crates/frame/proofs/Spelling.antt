@@ -32,7 +32,8 @@ next_bytes zero k xs h = let e : k ≡ k + 0 = omega arith in ap (λ (j : ℕ). 
 next_bytes (suc n) k xs h =
     let e : suc k + n ≡ k + suc n = omega arith in
     drop-cons xs k 0 (omega (arith, h))
-    ∙ ap (λ (t : List ℕ). get_or xs k 0 ∷ t) (next_bytes n (suc k) xs (omega (arith, h)) ∙ ap (λ (j : ℕ). bytes_from (suc k) n xs ++ drop j xs) e)
+    ∙ ap (λ (t : List ℕ). get_or xs k 0 ∷ t)
+    (next_bytes n (suc k) xs (omega (arith, h)) ∙ ap (λ (j : ℕ). bytes_from (suc k) n xs ++ drop j xs) e)
 
 -- the four bytes of a message number
 abbrev pub word : List ℕ → List ℕ
@@ -45,7 +46,8 @@ first_ten : (xs : List ℕ) → length xs ≡ 104
 unfolding bytes_from
 first_ten xs len =
     next_bytes 10 0 xs (omega (arith, len))
-    ∙ ap (λ (t : List ℕ). bytes_from 0 10 xs ++ t) (sym (take-append-drop 6 (drop 10 xs)) ∙ ap (λ (t : List ℕ). take 6 (drop 10 xs) ++ t) (drop-drop 6 10 xs))
+    ∙ ap (λ (t : List ℕ). bytes_from 0 10 xs ++ t)
+    (sym (take-append-drop 6 (drop 10 xs)) ∙ ap (λ (t : List ℕ). take 6 (drop 10 xs) ++ t) (drop-drop 6 10 xs))
 
 -- the piece whose fields stand in a plain text
 abbrev pub fields_in : List ℕ → PieceView
@@ -80,7 +82,8 @@ four_below a b c d (suc (suc (suc (suc i)))) ha hb hc hd = omega arith
 word_is : (xs : List ℕ) → AreBytes xs → to_be_bytes w32 (from_be_bytes w32 (word xs)) ≡ word xs
 word_is xs bytes =
     be_bytes_4 (word xs) (from_be_bytes w32 (word xs)) refl
-    (λ i. four_below (get_or xs 2 0) (get_or xs 3 0) (get_or xs 4 0) (get_or xs 5 0) i (bytes.below 2) (bytes.below 3) (bytes.below 4) (bytes.below 5)) refl
+    (λ i. four_below (get_or xs 2 0) (get_or xs 3 0) (get_or xs 4 0) (get_or xs 5 0) i (bytes.below 2)
+    (bytes.below 3) (bytes.below 4) (bytes.below 5)) refl
 
 -- ---- what spells a piece
 
@@ -95,7 +98,8 @@ spelled xs len bytes rules =
       piece = record {
         from = bytes.below 0;
         to = bytes.below 1;
-        message = small_number (get_or xs 2 0) (get_or xs 3 0) (get_or xs 4 0) (get_or xs 5 0) (bytes.below 2) (bytes.below 3) (bytes.below 4) (bytes.below 5);
+        message = small_number (get_or xs 2 0) (get_or xs 3 0) (get_or xs 4 0) (get_or xs 5 0) (bytes.below 2)
+            (bytes.below 3) (bytes.below 4) (bytes.below 5);
         partition = bytes.below 9;
         within = fits.within;
         last = fits.last;
@@ -108,7 +112,8 @@ spelled xs len bytes rules =
       };
       same =
           first_ten xs len
-          ∙ ap₂ (λ (w z : List ℕ). get_or xs 0 0 ∷ get_or xs 1 0 ∷ (w ++ (get_or xs 6 0 ∷ get_or xs 7 0 ∷ get_or xs 8 0 ∷ get_or xs 9 0 ∷ (z ++ drop 16 xs))))
+          ∙ ap₂ (λ (w z : List ℕ). get_or xs 0 0 ∷ get_or xs 1 0 ∷
+          (w ++ (get_or xs 6 0 ∷ get_or xs 7 0 ∷ get_or xs 8 0 ∷ get_or xs 9 0 ∷ (z ++ drop 16 xs))))
           (sym (word_is xs bytes)) rules.six;
     }
 

@@ -49,19 +49,28 @@ length-header : (p : ℕ) → length (header p) ≡ 8
 unfolding header
 length-header p = refl
 
-pub length-frame : (sealed : Sealer) (keys : KeyPair) (x : PieceView) → IsSealing sealed → IsPiece x → length (frame_of sealed keys x) ≡ 128
+pub length-frame : (sealed : Sealer) (keys : KeyPair) (x : PieceView) → IsSealing sealed → IsPiece x
+    → length (frame_of sealed keys x) ≡ 128
 unfolding frame_of
 length-frame sealed keys x laws is =
     let part = laws.longer keys (nonce_of (plain_of x)) (plain_of x) (block_is x is) (plain_is x is) in
-    omega (arith, length-append (header x.partition) (sealed keys (nonce_of (plain_of x)) (plain_of x)), length-header x.partition, part, length-plain x is)
+    omega (
+      arith,
+      length-append (header x.partition) (sealed keys (nonce_of (plain_of x)) (plain_of x)),
+      length-header x.partition,
+      part,
+      length-plain x is,
+    )
 
 -- ---- a frame is its header, and a sealed part that holds its piece
 
-pub begins : (sealed : Sealer) (keys : KeyPair) (p : ℕ) (bytes : List ℕ) (x : PieceView) → IsFrame sealed keys p bytes x → HasHeader p bytes
+pub begins : (sealed : Sealer) (keys : KeyPair) (p : ℕ) (bytes : List ℕ) (x : PieceView)
+    → IsFrame sealed keys p bytes x → HasHeader p bytes
 unfolding frame_of header
 begins sealed keys p bytes x f = ap (take 8) f.same ∙ ap header f.own
 
-pub part_holds : (sealed : Sealer) (keys : KeyPair) (p : ℕ) (bytes : List ℕ) (x : PieceView) → IsFrame sealed keys p bytes x
+pub part_holds : (sealed : Sealer) (keys : KeyPair) (p : ℕ) (bytes : List ℕ) (x : PieceView)
+    → IsFrame sealed keys p bytes x
     → Holds sealed keys p (drop 8 bytes) x
 unfolding frame_of header
 part_holds sealed keys p bytes x f = record {
@@ -85,7 +94,8 @@ frame_holds sealed keys p bytes x begins h =
 
 -- ---- what opens holds one piece at most
 
-pub as_it_opens : (sealed : Sealer) (keys : KeyPair) (p : ℕ) (text nonce plain : List ℕ) (x : PieceView) → IsSealing sealed
+pub as_it_opens : (sealed : Sealer) (keys : KeyPair) (p : ℕ) (text nonce plain : List ℕ) (x : PieceView)
+    → IsSealing sealed
     → OpensTo sealed keys text nonce plain → Holds sealed keys p text x → (nonce ≡ nonce_of plain) × Spells plain x
 as_it_opens sealed keys p text nonce plain x laws opens h =
     let one = laws.once keys text nonce plain (nonce_of h.plain) h.plain opens h.opens in
@@ -99,12 +109,16 @@ one_held sealed keys p q text x y laws a b =
 pub one_framed : (sealed : Sealer) (keys : KeyPair) (x y : PieceView) → IsSealing sealed → IsPiece x → IsPiece y
     → frame_of sealed keys x ≡ frame_of sealed keys y → x ≡ y
 one_framed sealed keys x y laws a b same =
-    let f : IsFrame sealed keys x.partition (frame_of sealed keys x) x = record { piece = a; own = refl; same = refl } in
-    let g : IsFrame sealed keys y.partition (frame_of sealed keys x) y = record { piece = b; own = refl; same = same } in
+    let f : IsFrame sealed keys x.partition (frame_of sealed keys x) x =
+    record { piece = a; own = refl; same = refl } in
+    let g : IsFrame sealed keys y.partition (frame_of sealed keys x) y =
+    record { piece = b; own = refl; same = same } in
     one_held sealed keys x.partition y.partition (drop 8 (frame_of sealed keys x)) x y laws
-    (part_holds sealed keys x.partition (frame_of sealed keys x) x f) (part_holds sealed keys y.partition (frame_of sealed keys x) y g)
+    (part_holds sealed keys x.partition (frame_of sealed keys x) x f)
+    (part_holds sealed keys y.partition (frame_of sealed keys x) y g)
 
-opens_where : (sealed : Sealer) (keys : KeyPair) (p : ℕ) (text : List ℕ) (x : PieceView) → Holds sealed keys p text x → Opens sealed keys text
+opens_where : (sealed : Sealer) (keys : KeyPair) (p : ℕ) (text : List ℕ) (x : PieceView) → Holds sealed keys p text x
+    → Opens sealed keys text
 opens_where sealed keys p text x h = record { nonce = nonce_of h.plain; plain = h.plain; opens = h.opens }
 
 -- ---- the four answers
@@ -115,22 +129,28 @@ pub closed_where : (sealed : Sealer) (keys : KeyPair) (p : ℕ) (bytes : List �
 closed_where sealed keys p bytes Foreign begins h = absurd h
 closed_where sealed keys p bytes Closed begins h = (λ e. (begins, h), λ t. refl)
 closed_where sealed keys p bytes Malformed begins h = (λ e. cc, λ t. absurd (t.1 h.0))
-closed_where sealed keys p bytes (Opened x) begins h = (λ e. cc, λ t. absurd (t.1 (opens_where sealed keys p (drop 8 bytes) x h)))
+closed_where sealed keys p bytes (Opened x) begins h =
+    (λ e. cc, λ t. absurd (t.1 (opens_where sealed keys p (drop 8 bytes) x h)))
 
 pub malformed_where : (sealed : Sealer) (keys : KeyPair) (p : ℕ) (bytes : List ℕ) (r : Opening) → HasHeader p bytes
     → PartHolds sealed keys p (drop 8 bytes) r
-    → (r ≡ Malformed) ↔ (HasHeader p bytes × Opens sealed keys (drop 8 bytes) × ((x : PieceView) → ¬ IsFrame sealed keys p bytes x))
+    → (r ≡ Malformed)
+    ↔ (HasHeader p bytes × Opens sealed keys (drop 8 bytes) × ((x : PieceView) → ¬ IsFrame sealed keys p bytes x))
 malformed_where sealed keys p bytes Foreign begins h = absurd h
 malformed_where sealed keys p bytes Closed begins h = (λ e. cc, λ t. absurd (h t.1))
-malformed_where sealed keys p bytes Malformed begins h = (λ e. (begins, h.0, λ x f. h.1 x (part_holds sealed keys p bytes x f)), λ t. refl)
-malformed_where sealed keys p bytes (Opened x) begins h = (λ e. cc, λ t. absurd (t.2 x (frame_holds sealed keys p bytes x begins h)))
+malformed_where sealed keys p bytes Malformed begins h =
+    (λ e. (begins, h.0, λ x f. h.1 x (part_holds sealed keys p bytes x f)), λ t. refl)
+malformed_where sealed keys p bytes (Opened x) begins h =
+    (λ e. cc, λ t. absurd (t.2 x (frame_holds sealed keys p bytes x begins h)))
 
-pub opened_where : (sealed : Sealer) (keys : KeyPair) (p : ℕ) (bytes : List ℕ) (r : Opening) → IsSealing sealed → HasHeader p bytes
+pub opened_where : (sealed : Sealer) (keys : KeyPair) (p : ℕ) (bytes : List ℕ) (r : Opening) → IsSealing sealed
+    → HasHeader p bytes
     → PartHolds sealed keys p (drop 8 bytes) r → (x : PieceView) → (r ≡ Opened x) ↔ IsFrame sealed keys p bytes x
 opened_where sealed keys p bytes Foreign laws begins h x = absurd h
 opened_where sealed keys p bytes Closed laws begins h x =
     (λ e. cc, λ f. absurd (h (opens_where sealed keys p (drop 8 bytes) x (part_holds sealed keys p bytes x f))))
-opened_where sealed keys p bytes Malformed laws begins h x = (λ e. cc, λ f. absurd (h.1 x (part_holds sealed keys p bytes x f)))
+opened_where sealed keys p bytes Malformed laws begins h x =
+    (λ e. cc, λ f. absurd (h.1 x (part_holds sealed keys p bytes x f)))
 opened_where sealed keys p bytes (Opened y) laws begins h x = (
   λ e. let same : y ≡ x = cc in subst (IsFrame sealed keys p bytes) same (frame_holds sealed keys p bytes y begins h),
   λ f. ap Opened (one_held sealed keys p p (drop 8 bytes) y x laws h (part_holds sealed keys p bytes x f)),

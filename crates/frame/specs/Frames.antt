@@ -29,7 +29,8 @@ pub record Spells (plain : List ℕ) (x : PieceView) : Type 0 where
   pub same : plain ≡ plain_of x
 
 -- bytes are the frame of a piece of this partition
-pub record IsFrame (sealed : Sealer) (keys : KeyPair) (partition : ℕ) (bytes : List ℕ) (x : PieceView) : Type 0 where
+pub record IsFrame (sealed : Sealer) (keys : KeyPair) (partition : ℕ) (bytes : List ℕ)
+    (x : PieceView) : Type 0 where
   pub piece : IsPiece x
   pub own : x.partition ≡ partition
   pub same : bytes ≡ frame_of sealed keys x

@@ -8,7 +8,8 @@ use Rattle.frame.specs.declared.sealed.Opening.{Opening}
 use Rattle.frame.specs.declared.sealed.Opening.TheVariants.{Foreign, Closed, Malformed, Opened}
 
 -- it opens to a piece of this partition, under the nonce of the piece's plain text
-pub record Holds (sealed : Sealer) (keys : KeyPair) (partition : ℕ) (text : List ℕ) (x : PieceView) : Type 0 where
+pub record Holds (sealed : Sealer) (keys : KeyPair) (partition : ℕ) (text : List ℕ)
+    (x : PieceView) : Type 0 where
   pub plain : List ℕ
   pub opens : OpensTo sealed keys text (nonce_of plain) plain
   pub spells : Spells plain x

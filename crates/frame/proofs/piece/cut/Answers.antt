@@ -13,4 +13,5 @@ invariant_of-result c =
       bytes = record { below = λ i. omega (arith, c.type_inv.body i) };
     } in
     rw (c.pieces.ensures.count, c.padded.ensures, c.piece_bytes-bytes.ensures.bytes)
-    (cut_is_piece c.args.from c.args.to c.args.partition c.args.message c.args.body.now c.args.i ranges c.requires.length c.requires.piece)
+    (cut_is_piece c.args.from c.args.to c.args.partition c.args.message c.args.body.now c.args.i ranges
+    c.requires.length c.requires.piece)

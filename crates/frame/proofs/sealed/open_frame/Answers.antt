@@ -18,20 +18,23 @@ returns-then-not-is_same-clause-opened g c = λ x. (
 pub returns-clause-closed : goal.returns-clause-closed
 returns-clause-closed g c =
     let sealed = g.S.Seal.sealed_text in
-    let held = subst (λ t. PartHolds sealed c.args.keys.now c.args.partition t c.open_part.result) (behind c.args.bytes.now c.told-bytes) c.open_part.ensures in
+    let held = subst (λ t. PartHolds sealed c.args.keys.now c.args.partition t c.open_part.result)
+    (behind c.args.bytes.now c.told-bytes) c.open_part.ensures in
     closed_where sealed c.args.keys.now c.args.partition c.args.bytes.now c.open_part.result
     (c.is_same.ensures.0 c.if-not-is_same.false ∙ c.header.ensures) held
 
 pub returns-clause-malformed : goal.returns-clause-malformed
 returns-clause-malformed g c =
     let sealed = g.S.Seal.sealed_text in
-    let held = subst (λ t. PartHolds sealed c.args.keys.now c.args.partition t c.open_part.result) (behind c.args.bytes.now c.told-bytes) c.open_part.ensures in
+    let held = subst (λ t. PartHolds sealed c.args.keys.now c.args.partition t c.open_part.result)
+    (behind c.args.bytes.now c.told-bytes) c.open_part.ensures in
     malformed_where sealed c.args.keys.now c.args.partition c.args.bytes.now c.open_part.result
     (c.is_same.ensures.0 c.if-not-is_same.false ∙ c.header.ensures) held
 
 pub returns-clause-opened : goal.returns-clause-opened
 returns-clause-opened g c =
     let sealed = g.S.Seal.sealed_text in
-    let held = subst (λ t. PartHolds sealed c.args.keys.now c.args.partition t c.open_part.result) (behind c.args.bytes.now c.told-bytes) c.open_part.ensures in
+    let held = subst (λ t. PartHolds sealed c.args.keys.now c.args.partition t c.open_part.result)
+    (behind c.args.bytes.now c.told-bytes) c.open_part.ensures in
     opened_where sealed c.args.keys.now c.args.partition c.args.bytes.now c.open_part.result g.met.S.Seal.laws
     (c.is_same.ensures.0 c.if-not-is_same.false ∙ c.header.ensures) held
