@@ -1,9 +1,9 @@
 -- Frames: the header of a partition, and a piece that is sealed under the partition's keys.
-use Rattle.std.specs.Prelude.{ℕ, List, [], ◌∷◌, ◌++◌, take, replicate}
+use Rattle.std.specs.Prelude.{◌≡◌, ℕ, List, [], ◌∷◌, ◌++◌, take, replicate}
 use Rattle.std.specs.Int.{w32, to_be_bytes}
 use Rattle.seal_core.specs.declared.KeyPair.{KeyPair}
-use Rattle.seal_core.specs.Sealing.{Sealer}
-use Rattle.frame.specs.Pieces.{PieceView}
+use Rattle.seal_core.specs.Sealing.{Sealer, OpensTo}
+use Rattle.frame.specs.Pieces.{PieceView, IsPiece}
 
 -- the eight bytes that each frame of a partition begins with
 unfoldable pub header : ℕ → List ℕ
@@ -22,3 +22,25 @@ nonce_of plain = take 7 plain ++ 0 ∷ []
 -- the frame of a piece, 128 bytes
 unfoldable pub frame_of : Sealer → KeyPair → PieceView → List ℕ
 frame_of sealed keys x = header x.partition ++ sealed keys (nonce_of (plain_of x)) (plain_of x)
+
+-- a plain text spells a piece
+pub record Spells (plain : List ℕ) (x : PieceView) : Type 0 where
+  pub piece : IsPiece x
+  pub same : plain ≡ plain_of x
+
+-- bytes are the frame of a piece of this partition
+pub record IsFrame (sealed : Sealer) (keys : KeyPair) (partition : ℕ) (bytes : List ℕ)
+    (x : PieceView) : Type 0 where
+  pub piece : IsPiece x
+  pub own : x.partition ≡ partition
+  pub same : bytes ≡ frame_of sealed keys x
+
+-- bytes begin with the header of a partition
+abbrev pub HasHeader : ℕ → List ℕ → Type 0
+HasHeader partition bytes = take 8 bytes ≡ header partition
+
+-- a sealed text opens to something
+pub record Opens (sealed : Sealer) (keys : KeyPair) (text : List ℕ) : Type 0 where
+  pub nonce : List ℕ
+  pub plain : List ℕ
+  pub opens : OpensTo sealed keys text nonce plain
