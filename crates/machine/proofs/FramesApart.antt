@@ -1,12 +1,10 @@
 -- Pieces of different messages to one unit have different frames, by the laws of the sealing.
-use Rattle.std.proofs.Common.{◌≡◌, ℕ, zero, suc, ◌+◌, ◌-◌, ◌*◌, ◌/◌, ◌%◌, ◌^◌, ◌<◌, ◌≤◌, List, [], ◌∷◌, ◌++◌, ◌&&◌, length, take, drop, reverse, Bool, true, false, Option, Some, None, refl, sym, ap, ap₂, subst, ◌∙◌, inl, inr, arith, length-append, take_at}
+use Rattle.std.proofs.Common.{◌≡◌, ℕ, zero, suc, ◌+◌, ◌-◌, ◌*◌, ◌/◌, ◌%◌, ◌^◌, ◌<◌, ◌≤◌, List, [], ◌∷◌, ◌++◌, ◌&&◌, length, take, drop, reverse, Bool, true, false, Option, Some, None, refl, sym, ap, ap₂, subst, ◌∙◌, inl, inr, arith, length-append, drop_at}
 use Rattle.std.specs.Prelude.{slice_get, slice_index, replicate, min, not, find, ◌==◌, nat_lt}
 use Rattle.std.specs.Option.{option_map}
-use Rattle.std.specs.Int.{w32, to_be_bytes, from_be_bytes, byte_at, bytes_high_first}
 use Rattle.std.specs.List.{AllByRecursion}
 use Rattle.std.proofs.lemmas.Bool.Decides.{nat_tests}
-use Rattle.std.proofs.lemmas.List.{length-take, length-replicate}
-use Rattle.std.proofs.lemmas.Nat.{from_be_bytes-to_be_bytes_4}
+use Rattle.std.proofs.lemmas.List.{length-take, length-drop, length-replicate}
 use Rattle.levels.specs.declared.level.Partition.{Partition}
 use Rattle.levels.specs.declared.level.Party.{Party}
 use Rattle.levels.specs.declared.level.Party.TheVariants.{Host, Manager}
@@ -15,161 +13,63 @@ use Rattle.levels.specs.declared.level.Sealing.TheVariants.{Clear, Des}
 use Rattle.levels.specs.declared.rows.HostRow.{HostRow}
 use Rattle.levels.specs.Kept.{IsRoster, IsHostRow}
 use Rattle.levels.specs.Rosters.{RosterView, host_row, partition_of, is_same_party, is_one_partition, is_same_partition, is_partner}
-use Rattle.frame.specs.Pieces.{PieceView, piece_count, pieces, piece_bytes, padded, piece_of}
+use Rattle.frame.specs.Pieces.{PieceView, IsPiece, piece_count, pieces, piece_bytes, padded, piece_of}
 use Rattle.seal_core.specs.declared.KeyPair.{KeyPair}
-use Rattle.seal_core.specs.Blocks.{AreBytes, IsBlock, IsPlain}
-use Rattle.seal_core.specs.Sealing.{Sealer, OpensTo, IsSealing}
+use Rattle.seal_core.specs.Blocks.{AreBytes}
+use Rattle.seal_core.specs.Sealing.{Sealer, IsSealing}
 use Rattle.seal_core.specs.ClearLaws.{clear_laws}
 use Rattle.des_cbc.specs.ChainLaws.{des_laws}
 use Rattle.seal_core.specs.Parts.{AreBytes-append, AreBytes-drop, AreBytes-take}
-use Rattle.frame.specs.Frames.{header, plain_of, nonce_of, frame_of}
+use Rattle.frame.specs.Frames.{frame_of}
 use Rattle.machine.specs.Events.{Event, ScriptView}
 use Rattle.machine.specs.Setup.{Setup, sealer, setup_of}
-use Rattle.machine.specs.Machine.{address_of, number_of, piece_frame, state, state_at}
-use Rattle.machine.specs.Laws.{FramesApart, AreSmall}
+use Rattle.machine.specs.Machine.{address_of, number_of, piece_frame, state}
+use Rattle.machine.specs.Laws.{FramesApart, IsSmallMessage, AreSmall}
 use Rattle.machine.proofs.InOrder.{nothing_sent}
 use Rattle.machine.proofs.Basics.{bool_cases, both}
-use Rattle.machine.proofs.Bytes.{AreBytes-cons, AreBytes-nil, AreBytes-zeros, AreBytes-high, length-high}
+use Rattle.machine.proofs.Bytes.{AreBytes-zeros}
 
--- ---- a piece whose fields are in their ranges has its own frame
+-- in one partition different pieces have different frames
+abbrev pub PiecesApart : Type 0
+PiecesApart = (sealed : Sealer) (keys : KeyPair) (x y : PieceView) → IsSealing sealed → IsPiece x → IsPiece y
+    → frame_of sealed keys x ≡ frame_of sealed keys y → x ≡ y
 
-pub record IsSmall (x : PieceView) : Type 0 where
-  pub from : x.from < 256
-  pub to : x.to < 256
-  pub message : x.message < 2 ^ 32
-  pub piece : x.piece < 256
-  pub last : x.last < 256
-  pub used : x.used < 256
-  pub partition : x.partition < 256
-  pub wide : length x.payload ≡ 88
-  pub bytes : AreBytes x.payload
+-- ---- a piece of a message that fits frames
 
-length-word : (n : ℕ) → length (to_be_bytes w32 n) ≡ 4
-length-word n = length-high 4 n
+-- of a message of n bytes, piece i has this many
+abbrev used_of : ℕ → ℕ → ℕ
+used_of n i = min 88 (n - 88 * i)
 
-abbrev tail_of : PieceView → List ℕ
-tail_of x = x.piece ∷ x.last ∷ x.used ∷ x.partition ∷ (replicate 6 0 ++ x.payload)
+length-piece_bytes : (body : List ℕ) (i : ℕ) → length (piece_bytes body i) ≡ used_of (length body) i
+unfolding piece_bytes
+length-piece_bytes body i =
+    length-take 88 (drop (88 * i) body) ∙ ap (min 88) (length-drop (88 * i) body)
 
-plain_is : (x : PieceView) → plain_of x ≡ x.from ∷ x.to ∷ (to_be_bytes w32 x.message ++ tail_of x)
-unfolding plain_of
-plain_is x = refl
+-- the numbers of a piece are in their ranges
+record Counts (n i : ℕ) : Type 0 where
+  within : i ≤ piece_count n - 1
+  last : piece_count n - 1 ≤ 63
+  full : i < piece_count n - 1 → used_of n i ≡ 88
+  some : 0 < piece_count n - 1 → 0 < used_of n i
 
-AreBytes-tail : (x : PieceView) → IsSmall x → AreBytes (tail_of x)
-AreBytes-tail x is =
-    AreBytes-cons x.piece _ is.piece
-    (AreBytes-cons x.last _ is.last (AreBytes-cons x.used _ is.used (AreBytes-cons x.partition _ is.partition
-    (AreBytes-append (replicate 6 0) x.payload (AreBytes-zeros 6) is.bytes))))
-
-AreBytes-plain : (x : PieceView) → IsSmall x → AreBytes (plain_of x)
-AreBytes-plain x is =
-    subst AreBytes (sym (plain_is x))
-    (AreBytes-cons x.from _ is.from
-    (AreBytes-cons x.to _ is.to
-    (AreBytes-append (to_be_bytes w32 x.message) (tail_of x) (AreBytes-high 4 x.message) (AreBytes-tail x is))))
-
-length-tail : (x : PieceView) → IsSmall x → length (tail_of x) ≡ 98
-length-tail x is =
-    ap (λ n. suc (suc (suc (suc n)))) (length-append (replicate 6 0) x.payload ∙ ap (λ n. 6 + n) is.wide)
-
-length-plain : (x : PieceView) → IsSmall x → length (plain_of x) ≡ 104
-length-plain x is =
-    ap length (plain_is x)
-    ∙ ap (λ n. suc (suc n)) (length-append (to_be_bytes w32 x.message) (tail_of x)
-    ∙ ap₂ (λ (a b : ℕ). a + b) (length-word x.message) (length-tail x is))
-
-eights : (n : ℕ) → n ≡ 104 → n % 8 ≡ 0
-eights n is = ap (λ k. k % 8) is
-
-plain_fits : (x : PieceView) → IsSmall x → IsPlain (plain_of x)
-plain_fits x is =
-    let long = length-plain x is in
-    record {
-      some = omega (arith, long);
-      whole = eights (length (plain_of x)) long;
-      bytes =
-          AreBytes-plain x is;
-    }
-
-nonce_fits : (plain : List ℕ) → length plain ≡ 104 → AreBytes plain → IsBlock (nonce_of plain)
-unfolding nonce_of
-nonce_fits plain long bytes = record {
-  len =
-      let seven : length (take 7 plain) ≡ 7 = length-take 7 plain ∙ omega (arith, long) in
-      length-append (take 7 plain) (0 ∷ []) ∙ ap (λ n. n + 1) seven;
-  bytes =
-      AreBytes-append (take 7 plain) (0
-      ∷ []) (AreBytes-take 7 plain bytes) (AreBytes-cons 0 [] (omega arith) AreBytes-nil);
+counts : (n i : ℕ) → n ≤ 5632 → i < piece_count n → Counts n i
+unfolding piece_count
+counts n i short lt = record {
+  within = omega (arith, lt);
+  last = omega (arith, short);
+  full = λ less. omega (arith, less);
+  some = λ more. omega (arith, more, lt);
 }
 
-behind_header : (p q : ℕ) (a b : List ℕ) → header p ++ a ≡ header q ++ b → a ≡ b
-unfolding header
-behind_header p q a b same = cc
+wide : (b : List ℕ) → length b ≤ 88 → length (padded b) ≡ 88
+unfolding padded
+wide b le =
+    length-append b (replicate (88 - length b) 0)
+    ∙ omega (arith, le, length-replicate {A = ℕ} (88 - length b) 0)
 
-opens : (sealed : Sealer) (keys : KeyPair) (x : PieceView) (text : List ℕ) → IsSmall x
-    → text ≡ sealed keys (nonce_of (plain_of x)) (plain_of x)
-    → OpensTo sealed keys text (nonce_of (plain_of x)) (plain_of x)
-opens sealed keys x text is same =
-    record {
-      block = nonce_fits (plain_of x) (length-plain x is) (AreBytes-plain x is);
-      blocks =
-          plain_fits x is;
-      same = same;
-    }
-
-sealed_part : (sealed : Sealer) (keys : KeyPair) (x y : PieceView)
-    → frame_of sealed keys x ≡ frame_of sealed keys y
-    → sealed keys (nonce_of (plain_of x)) (plain_of x) ≡ sealed keys (nonce_of (plain_of y)) (plain_of y)
-unfolding frame_of
-sealed_part sealed keys x y same = behind_header x.partition y.partition _ _ same
-
-same_plain : (sealed : Sealer) (keys : KeyPair) (x y : PieceView) → IsSealing sealed → IsSmall x → IsSmall y
-    → frame_of sealed keys x ≡ frame_of sealed keys y → plain_of x ≡ plain_of y
-same_plain sealed keys x y laws is is' same =
-    let text = sealed keys (nonce_of (plain_of x)) (plain_of x) in
-    (laws.once keys (sealed keys (nonce_of (plain_of x)) (plain_of x)) (nonce_of (plain_of x)) (plain_of x)
-    (nonce_of (plain_of y)) (plain_of y)
-    (opens sealed keys x (sealed keys (nonce_of (plain_of x)) (plain_of x)) is refl)
-    (opens sealed keys y (sealed keys (nonce_of (plain_of x)) (plain_of x)) is'
-    (sealed_part sealed keys x y same))).1
-
-same_word : (a b : ℕ) → a < 2 ^ 32 → b < 2 ^ 32 → to_be_bytes w32 a ≡ to_be_bytes w32 b → a ≡ b
-same_word a b la lb same = sym (from_be_bytes-to_be_bytes_4 a la) ∙ ap (from_be_bytes w32) same
-    ∙ from_be_bytes-to_be_bytes_4 b lb
-
--- the fields of a piece that its frame tells
-pub record SameName (x y : PieceView) : Type 0 where
-  pub from : x.from ≡ y.from
-  pub message : x.message ≡ y.message
-
-same_name : (x y : PieceView) → IsSmall x → IsSmall y → plain_of x ≡ plain_of y → SameName x y
-same_name x y is is' same =
-    let all : x.from ∷ x.to ∷ (to_be_bytes w32 x.message ++ tail_of x)
-    ≡ y.from ∷ y.to ∷ (to_be_bytes w32 y.message ++ tail_of y) = sym (plain_is x) ∙ same ∙ plain_is y in
-    let from : x.from ≡ y.from = cc in
-    let rest : to_be_bytes w32 x.message ++ tail_of x ≡ to_be_bytes w32 y.message ++ tail_of y = cc in
-    let word : to_be_bytes w32 x.message ≡ to_be_bytes w32 y.message =
-    sym (take_at (to_be_bytes w32 x.message) (tail_of x) 4 (length-word x.message)) ∙ ap (take 4) rest
-    ∙ take_at (to_be_bytes w32 y.message) (tail_of y) 4 (length-word y.message) in
-    record { from = from; message = same_word x.message y.message is.message is'.message word }
-
--- ---- the pieces of messages that were sent
-
-few : (n i : ℕ) → n ≤ 5632 → i < piece_count n → (i < 256) × (piece_count n - 1 < 256)
-unfolding piece_count
-few n i short lt = (omega arith, omega arith)
-
-payload_wide : (body : List ℕ) (i : ℕ) → length (padded (piece_bytes body i)) ≡ 88
-unfolding padded piece_bytes
-payload_wide body i =
-    let part : length (take 88 (drop (88 * i) body)) ≡ min 88 (length (drop (88 * i) body)) =
-    length-take 88 (drop (88 * i) body) in
-    length-append (take 88 (drop (88 * i) body)) (replicate (88 - length (take 88 (drop (88 * i) body))) 0)
-    ∙ omega (arith, part, length-replicate {A = ℕ} (88 - length (take 88 (drop (88 * i) body))) 0)
-
-used_small : (body : List ℕ) (i : ℕ) → length (piece_bytes body i) < 256
-unfolding piece_bytes
-used_small body i = let part : length (take 88 (drop (88 * i) body)) ≡ min 88 (length (drop (88 * i) body)) =
-    length-take 88 (drop (88 * i) body) in omega (arith, part)
+zeros : (b : List ℕ) → drop (length b) (padded b) ≡ replicate (88 - length b) 0
+unfolding padded
+zeros b = drop_at b (replicate (88 - length b) 0) (length b) refl
 
 payload_bytes : (body : List ℕ) (i : ℕ) → AreBytes body → AreBytes (padded (piece_bytes body i))
 unfolding padded piece_bytes
@@ -178,21 +78,25 @@ payload_bytes body i bytes =
     (AreBytes-take 88 (drop (88 * i) body) (AreBytes-drop (88 * i) body bytes))
     (AreBytes-zeros (88 - length (take 88 (drop (88 * i) body))))
 
-piece_small : (from to p j : ℕ) (body : List ℕ) (i : ℕ) → from < 256 → to < 256 → p < 256 → j < 2 ^ 32
-    → AreBytes body → length body ≤ 5632 → i < pieces body → IsSmall (piece_of from to p j body i)
-piece_small from to p j body i lf lt lp lj bytes short within =
-    let counts = few (length body) i short within in
+is_piece : (from to p j : ℕ) (body : List ℕ) (i : ℕ) → from < 256 → to < 256 → p < 256
+    → IsSmallMessage j body → i < pieces body → IsPiece (piece_of from to p j body i)
+is_piece from to p j body i lf lt lp fits within =
+    let c = counts (length body) i fits.short within in
+    let used = length-piece_bytes body i in
+    let le : length (piece_bytes body i) ≤ 88 = omega (arith, used) in
     record {
       from = lf;
       to = lt;
-      message = lj;
-      piece = counts.0;
-      last = counts.1;
-      used =
-          used_small body i;
+      message = fits.number;
       partition = lp;
-      wide = payload_wide body i;
-      bytes = payload_bytes body i bytes;
+      within = c.within;
+      last = c.last;
+      full = λ less. used ∙ c.full less;
+      some = λ more. (let some = c.some more in omega (arith, used, some));
+      used = le;
+      wide = wide (piece_bytes body i) le;
+      bytes = payload_bytes body i fits.bytes;
+      zeros = zeros (piece_bytes body i);
     }
 
 -- ---- parties of one partition have different addresses
@@ -294,9 +198,9 @@ the_frame m s u p j body i there =
     ap (λ (o : Option Partition). frame_of m.sealed (m.keys (number_of o))
     (piece_of (address_of s) (address_of u) (number_of o) j body i)) there
 
-pub frames_apart : (m : Setup) (past : List Event) → IsSealing m.sealed → IsRoster m.roster
+pub frames_apart : PiecesApart → (m : Setup) (past : List Event) → IsSealing m.sealed → IsRoster m.roster
     → AreSmall (state m past) → FramesApart m (state m past)
-frames_apart m past laws is small = λ s s' u j j' i i' bytes a b. (
+frames_apart apart m past laws is small = λ s s' u j j' i i' bytes a b. (
     let one = in_one m.roster s u (partners_of_sent m past s u j a.body a.sent) in
     let other = in_one m.roster s' u (partners_of_sent m past s' u j' b.body b.sent) in
     let met : one.q ≡ other.q = let e = sym one.there' ∙ other.there' in cc in
@@ -304,32 +208,25 @@ frames_apart m past laws is small = λ s s' u j j' i i' bytes a b. (
     let k = known m.roster s one.p is one.there in
     let k' = known m.roster s' other.p is other.there in
     let to = known m.roster u one.q is one.there' in
-    let fits = small s u j a.body a.sent in
-    let fits' = small s' u j' b.body b.sent in
     let x = piece_of (address_of s) (address_of u) one.p.0 j a.body i in
     let y = piece_of (address_of s') (address_of u) other.p.0 j' b.body i' in
     let same : frame_of m.sealed (m.keys one.p.0) x ≡ frame_of m.sealed (m.keys one.p.0) y =
     sym (the_frame m s u one.p j a.body i one.there) ∙ sym a.same ∙ b.same
     ∙ the_frame m s' u other.p j' b.body i' other.there
     ∙ ap (λ n. frame_of m.sealed (m.keys n) y) (sym number) in
-    let x_small : IsSmall x =
-    piece_small (address_of s) (address_of u) one.p.0 j a.body i k.address to.address k.number fits.number
-    fits.bytes fits.short a.piece in
-    let y_small : IsSmall y =
-    piece_small (address_of s') (address_of u) other.p.0 j' b.body i' k'.address to.address k'.number
-    fits'.number fits'.bytes fits'.short b.piece in
-    let names =
-    same_name x y x_small y_small (same_plain m.sealed (m.keys one.p.0) x y laws x_small y_small same) in
-    (one_party m.roster s s' one.p other.p is one.there other.there number names.from, names.message))
+    let x_fits = is_piece (address_of s) (address_of u) one.p.0 j a.body i k.address to.address k.number
+    (small s u j a.body a.sent) a.piece in
+    let y_fits = is_piece (address_of s') (address_of u) other.p.0 j' b.body i' k'.address to.address k'.number
+    (small s' u j' b.body b.sent) b.piece in
+    let one_piece : x ≡ y = apart m.sealed (m.keys one.p.0) x y laws x_fits y_fits same in
+    let address : address_of s ≡ address_of s' = ap (λ (z : PieceView). z.from) one_piece in (
+      one_party m.roster s s' one.p other.p is one.there other.there number address,
+      ap (λ (z : PieceView). z.message) one_piece,
+      ap (λ (z : PieceView). z.piece) one_piece,
+    ))
 
 -- both sealings keep the laws
 pub sealer_seals : (sealing : Sealing) → IsSealing (sealer sealing)
 unfolding sealer
 sealer_seals Clear = clear_laws
 sealer_seals Des = des_laws
-
-pub script_frames_apart : (script : ScriptView) (n : ℕ) → IsRoster script.roster → AreSmall (state_at script n)
-    → FramesApart (setup_of script) (state_at script n)
-script_frames_apart script n is small =
-    frames_apart (setup_of script) (reverse (take n script.events)) (sealer_seals script.roster.sealing) is
-    small

@@ -11,7 +11,7 @@ use Rattle.events.specs.declared.event.Stream.{Stream}
 use Rattle.machine.specs.Events.{Event, Send, Ask, Arrive, Carry, Forge, Tamper}
 use Rattle.machine.specs.Setup.{Setup}
 use Rattle.machine.specs.Machine.{State, piece_frame, is_between, gives, Message, message_of, given_from, given_to, parties}
-use Rattle.machine.specs.FalseBytes.{IsFrame}
+use Rattle.machine.specs.FalseBytes.{IsSentFrame}
 use Rattle.machine.specs.Laws.{HandsOver, OneFrame, FramesApart}
 use Rattle.machine.proofs.Basics.{bool_cases, both, same_number, same_party, own_party}
 use Rattle.machine.proofs.Giving.{gives_what_it_hands}
@@ -40,10 +40,10 @@ named stream at s s' u k j j' one other =
 
 -- a Forge hands over a piece exactly where its bytes are the piece's frame
 pub forged : (m : Setup) (x : State) (at : Party) (bytes : List ℕ) (s u : Party) (j i : ℕ)
-    → HandsOver m x (Forge at bytes) s u j i → IsFrame m x s at j i bytes
+    → HandsOver m x (Forge at bytes) s u j i → IsSentFrame m x s at j i bytes
 forged m x at bytes s u j i h =
     let t = both (is_same_party at u) (bytes_eq bytes (piece_frame m s u j h.body i)) h.hands in
-    subst (λ v. IsFrame m x s v j i bytes) (sym (same_party at u t.0))
+    subst (λ v. IsSentFrame m x s v j i bytes) (sym (same_party at u t.0))
     (record {
       body = h.body;
       sent = h.sent;
@@ -68,7 +68,8 @@ hands_one m x (Ask from call) s s' u j j' i i' one h h' = let none = h.hands in 
 hands_one m x (Tamper stream message piece at edits) s s' u j j' i i' one h h' = let none = h.hands in cc
 
 pub one_frame : (m : Setup) (x : State) (e : Event) → FramesApart m x → OneFrame m x e
-one_frame m x (Forge at bytes) apart = λ s s' j j' i i' a b. apart s s' at j j' i i' bytes a b
+one_frame m x (Forge at bytes) apart = λ s s' j j' i i' a b.
+    (let t = apart s s' at j j' i i' bytes a b in (t.0, t.1))
 one_frame m x (Send from to message) apart = tt
 one_frame m x (Ask from call) apart = tt
 one_frame m x (Arrive stream message piece at) apart = tt

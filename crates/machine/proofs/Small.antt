@@ -27,7 +27,7 @@ use Rattle.machine.proofs.Basics.{bool_cases, both, same_party, all_joined}
 use Rattle.machine.proofs.Apart.{parties_apart}
 use Rattle.machine.proofs.Single.{one_frame}
 use Rattle.machine.proofs.Wording.{one_call_or_none}
-use Rattle.machine.proofs.FramesApart.{frames_apart, sealer_seals}
+use Rattle.machine.proofs.FramesApart.{PiecesApart, frames_apart, sealer_seals}
 use Rattle.machine.proofs.ReplyRange.{reply_in_range}
 use Rattle.machine.proofs.Texts.{AreFew, call_few, reply_few}
 
@@ -114,19 +114,19 @@ are_small x n few small = λ s r j body is.
     let count = small.few s r in
     record { number = omega (arith, within, count, few); bytes = there.bytes; short = there.few })
 
-reached : (m : Setup) (past : List Event) → IsSealing m.sealed → IsRoster m.roster → length past < 2 ^ 31
+reached : PiecesApart → (m : Setup) (past : List Event) → IsSealing m.sealed → IsRoster m.roster → length past < 2 ^ 31
     → AllByRecursion (SendsBytes m.roster) past → Small (state m past) (length past)
-reached m [] laws is short all = record { messages = λ s r. tt; few = λ s r. omega arith }
-reached m (e ∷ past) laws is short all =
+reached pieces m [] laws is short all = record { messages = λ s r. tt; few = λ s r. omega arith }
+reached pieces m (e ∷ past) laws is short all =
     let fewer : length past < 2 ^ 31 = omega (arith, short) in
-    let before = reached m past laws is fewer all.1 in
+    let before = reached pieces m past laws is fewer all.1 in
     small_more m (state m past) e (length past) is
-    (frames_apart m past laws is (are_small (state m past) (length past) fewer before)) all.0 before
+    (frames_apart pieces m past laws is (are_small (state m past) (length past) fewer before)) all.0 before
 
 -- in the states of setups whose events send bytes
-pub small_state : (m : Setup) (past : List Event) → IsSealing m.sealed → IsRoster m.roster
+pub small_state : PiecesApart → (m : Setup) (past : List Event) → IsSealing m.sealed → IsRoster m.roster
     → length past < 2 ^ 31 → AllByRecursion (SendsBytes m.roster) past → AreSmall (state m past)
-small_state m past laws is short all = are_small (state m past) (length past) short (reached m past laws is short all)
+small_state pieces m past laws is short all = are_small (state m past) (length past) short (reached pieces m past laws is short all)
 
 -- ---- scripts
 
@@ -162,17 +162,17 @@ all_reversed P (x ∷ xs) all =
     (all_joined P (reverse xs) (x ∷ []) (all_reversed P xs all.1) (all.0, tt))
 
 -- in every state of a script that can be held
-pub small_at : (script : ScriptView) (n : ℕ) → IsScript script → AreSmall (state_at script n)
-small_at script n is =
+pub small_at : PiecesApart → (script : ScriptView) (n : ℕ) → IsScript script → AreSmall (state_at script n)
+small_at pieces script n is =
     let back = length-reverse (take n script.events) in
     let part = length-take n script.events in
     let room = is.room in
-    small_state (setup_of script) (reverse (take n script.events)) (sealer_seals script.roster.sealing) is.roster
+    small_state pieces (setup_of script) (reverse (take n script.events)) (sealer_seals script.roster.sealing) is.roster
     (omega (arith, back, part, room))
     (all_reversed (SendsBytes script.roster) (take n script.events)
     (all_taken (SendsBytes script.roster) n script.events (all_send script.roster script.events is.events)))
 
-pub apart_at : (script : ScriptView) (n : ℕ) → IsScript script → FramesApart (setup_of script) (state_at script n)
-apart_at script n is =
-    frames_apart (setup_of script) (reverse (take n script.events)) (sealer_seals script.roster.sealing) is.roster
-    (small_at script n is)
+pub apart_at : PiecesApart → (script : ScriptView) (n : ℕ) → IsScript script → FramesApart (setup_of script) (state_at script n)
+apart_at pieces script n is =
+    frames_apart pieces (setup_of script) (reverse (take n script.events)) (sealer_seals script.roster.sealing) is.roster
+    (small_at pieces script n is)

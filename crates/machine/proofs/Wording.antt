@@ -22,7 +22,7 @@ use Rattle.machine.specs.Given.{has_piece, has_all, has_later}
 use Rattle.machine.specs.Files.{CallRow}
 use Rattle.machine.specs.Plan.{reply}
 use Rattle.machine.specs.Machine.{State, piece_frame, handed, gives, numbers_given, Message, message_of, given_from, given_to, calls_to, calls_by, is_answered_on, replies, sent_by, after, state, parties}
-use Rattle.machine.specs.FalseBytes.{IsFrame}
+use Rattle.machine.specs.FalseBytes.{IsSentFrame}
 use Rattle.machine.specs.Laws.{HandsOver, OneFrame, FramesApart, replies_to}
 use Rattle.machine.proofs.Basics.{bool_cases, own_party, found_still}
 use Rattle.machine.proofs.Apart.{is_in, Apart}
@@ -74,7 +74,7 @@ ask_is_send m x from call y is =
     ∙ ask_sends m from call (partition_of m.roster (Host from)) y is)
     (given_of_none m x from call y.to y.message)
 
-pub is_forged : (m : Setup) (x : State) (bytes : List ℕ) (s u : Party) (j i : ℕ) → IsFrame m x s u j i bytes
+pub is_forged : (m : Setup) (x : State) (bytes : List ℕ) (s u : Party) (j i : ℕ) → IsSentFrame m x s u j i bytes
     → HandsOver m x (Forge u bytes) s u j i
 is_forged m x bytes s u j i h =
     record {
@@ -149,7 +149,7 @@ one_call_or_none m x e (Manager p) one apart = elim (one_or_none m x e (Manager 
 
 -- a frame stays the frame of its piece
 pub frame_still : (m : Setup) (x : State) (e : Event) (s u : Party) (j i : ℕ) (bytes : List ℕ)
-    → IsFrame m x s u j i bytes → IsFrame m (after m e x) s u j i bytes
+    → IsSentFrame m x s u j i bytes → IsSentFrame m (after m e x) s u j i bytes
 frame_still m x e s u j i bytes is =
     record {
       body = is.body;

@@ -1,10 +1,10 @@
 -- False frames and false records: bytes that open, but weren't sealed for what they open as.
-use Rattle.std.specs.Prelude.{◌≡◌, ℕ, ◌<◌, ◌≤◌, List, [], ◌∷◌, ◌++◌, length, true, false, Some, slice_get, slice_set, slice_index, bit_xor}
+use Rattle.std.specs.Prelude.{◌≡◌, ℕ, ◌<◌, List, [], ◌∷◌, ◌++◌, length, drop, true, false, Some, slice_get, slice_set, slice_index, bit_xor}
 use Rattle.levels.specs.declared.level.Party.{Party}
 use Rattle.levels.specs.Rosters.{partition_of, is_same_partition}
 use Rattle.frame.specs.Pieces.{pieces}
-use Rattle.seal_core.specs.Sealing.{OpensTo}
-use Rattle.frame.specs.Frames.{header}
+use Rattle.frame.specs.Frames.{HasHeader, Opens}
+use Rattle.file_calls.specs.Names.{is_content}
 use Rattle.guarantor.specs.Records.{record_of}
 use Rattle.machine.specs.Events.{Event, Send, Ask, Arrive, Carry, Forge, Tamper, ScriptView}
 use Rattle.machine.specs.Setup.{Setup, setup_of}
@@ -15,18 +15,16 @@ use Rattle.machine.specs.Machine.{State, number_of, piece_frame, calls_by, state
 
 -- bytes open in partition p: they have its header, and the rest opens under its keys
 pub record OpensIn (m : Setup) (p : ℕ) (bytes : List ℕ) : Type 0 where
-  pub rest : List ℕ
-  pub nonce : List ℕ
-  pub plain : List ℕ
-  pub header : bytes ≡ header p ++ rest
-  pub opens : OpensTo m.sealed (m.keys p) rest nonce plain
+  pub header : HasHeader p bytes
+  pub opens : Opens m.sealed (m.keys p) (drop 8 bytes)
 
 -- bytes open at a unit where they open in its partition
 abbrev pub OpensAt : Setup → Party → List ℕ → Type 0
 OpensAt m u bytes = OpensIn m (number_of (partition_of m.roster u)) bytes
 
 -- bytes are the frame of piece i of message j from s to r, which was sent
-pub record IsFrame (m : Setup) (x : State) (s r : Party) (j i : ℕ) (bytes : List ℕ) : Type 0 where
+pub record IsSentFrame (m : Setup) (x : State) (s r : Party) (j i : ℕ) (bytes : List ℕ) :
+    Type 0 where
   pub body : List ℕ
   pub sent : slice_get (x.sent s r) j ≡ Some body
   pub piece : i < pieces body
@@ -42,13 +40,13 @@ edited (edit ∷ edits) bytes =
 pub record IsFalseFrame (m : Setup) (x : State) (at : Party) (bytes : List ℕ) : Type 0 where
   pub opens : OpensAt m at bytes
   pub never_sent : (s r : Party) (j i : ℕ) → is_same_partition m.roster s at ≡ true
-      → ¬ IsFrame m x s r j i bytes
+      → ¬ IsSentFrame m x s r j i bytes
 
 -- a frame that was sent opens once it is changed
 pub record IsFalseChange
     (m : Setup) (x : State) (at s r : Party) (j i : ℕ) (edits : List (ℕ × ℕ)) : Type 0 where
   pub bytes : List ℕ
-  pub sent : IsFrame m x s r j i bytes
+  pub sent : IsSentFrame m x s r j i bytes
   pub opens : OpensAt m at (edited edits bytes)
 
 -- e is a false frame that opens
@@ -63,7 +61,7 @@ IsFalse m x (Carry stream message at) = ⊥
 
 -- bytes are the record of the block that is asked for, with this content
 pub record IsRecord (m : Setup) (question : Question) (bytes content : List ℕ) : Type 0 where
-  pub short : length content ≤ 4096
+  pub short : is_content content ≡ true
   pub same : bytes ≡ record_of m.sealed m.guard
       question.level question.name question.block question.version content
 

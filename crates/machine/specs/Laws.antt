@@ -1,5 +1,5 @@
 -- What the laws of the machine say.
-use Rattle.std.specs.Prelude.{◌≡◌, ℕ, ◌<◌, ◌≤◌, ◌^◌, List, [], ◌∷◌, ◌++◌, length, map, true, false, Option, Some, None, if◌then◌else◌, slice_get}
+use Rattle.std.specs.Prelude.{◌≡◌, ◌⊎◌, ℕ, ◌<◌, ◌≤◌, ◌^◌, List, [], ◌∷◌, ◌++◌, length, map, true, false, Option, Some, None, if◌then◌else◌, slice_get}
 use Rattle.std.specs.List.Sorted.{IsStrictlyIncreasing}
 use Rattle.levels.specs.declared.level.Party.{Party}
 use Rattle.levels.specs.Rosters.{RosterView, is_same_party, is_partner}
@@ -16,7 +16,7 @@ use Rattle.machine.specs.Files.{CallRow, versions_of, written, files}
 use Rattle.machine.specs.Replies.{Question, is_below, block_version}
 use Rattle.machine.specs.Plan.{question_of, reply}
 use Rattle.machine.specs.Machine.{State, hands, is_answered_on, end_of, told, state_at}
-use Rattle.machine.specs.FalseBytes.{IsFrame}
+use Rattle.machine.specs.FalseBytes.{IsSentFrame}
 
 -- an event hands over piece i of message j from s to u, which was sent before
 pub record HandsOver (m : Setup) (x : State) (e : Event) (s u : Party) (j i : ℕ) : Type 0 where
@@ -70,16 +70,21 @@ pub record ReadsDown
   pub written : written (files question.level before).writes version
       ≡ Some (record { name = question.name; block = question.block; content = content })
 
+-- a list is empty, or has one element
+abbrev pub IsOneAtMost : {A : Type 0} → List A → Type 0
+IsOneAtMost {A = A} xs = (xs ≡ []) ⊎ ((x : A) × (xs ≡ x ∷ []))
+
 -- the bytes of a forged frame are the frame of pieces of one message to that unit at most
 abbrev pub OneFrame : Setup → State → Event → Type 0
 OneFrame m x (Forge at bytes) = (s s' : Party) (j j' i i' : ℕ)
-    → IsFrame m x s at j i bytes → IsFrame m x s' at j' i' bytes → (s ≡ s') × (j ≡ j')
+    → IsSentFrame m x s at j i bytes → IsSentFrame m x s' at j' i' bytes → (s ≡ s') × (j ≡ j')
 OneFrame m x e = Unit {0}
 
--- pieces of different messages to one unit have different frames
+-- different pieces to one unit have different frames
 abbrev pub FramesApart : Setup → State → Type 0
 FramesApart m x = (s s' u : Party) (j j' i i' : ℕ) (bytes : List ℕ)
-    → IsFrame m x s u j i bytes → IsFrame m x s' u j' i' bytes → (s ≡ s') × (j ≡ j')
+    → IsSentFrame m x s u j i bytes → IsSentFrame m x s' u j' i' bytes
+    → (s ≡ s') × (j ≡ j') × (i ≡ i')
 
 -- the replies of a manager unit s to r, for calls that stand newest first
 abbrev pub replies_to : Setup → Party → Party → List CallRow → List (List ℕ)

@@ -1,4 +1,4 @@
-ghost use Rattle.std.specs.Prelude.{◌≡◌, ◌↔◌, ◌⊎◌, ℕ, ◌≤◌, ◌++◌, ◌∷◌, [], ◌&&◌, not, length, List, true, false, Some, slice_get};
+ghost use Rattle.std.specs.Prelude.{◌≡◌, ◌↔◌, ℕ, ◌≤◌, ◌++◌, ◌&&◌, not, length, List, true, false, Some, slice_get};
 ghost use Rattle.levels.specs.declared.level.Level.{Level};
 ghost use Rattle.levels.specs.declared.level.Partition.{Partition};
 ghost use Rattle.levels.specs.declared.level.Party.{Party};
@@ -8,17 +8,20 @@ ghost use Rattle.levels.specs.Order.{is_at_most};
 ghost use Rattle.levels.specs.Rosters.{is_same_party, level_of};
 ghost use Rattle.seal_core.specs.Sealing.{IsSealing};
 ghost use Rattle.file_calls.specs.declared.call.Call.{Call};
-ghost use Rattle.machine.specs.Events.{Event, Ask, Send, Forge, ScriptView};
+ghost use Rattle.file_calls.specs.Spelling.{is_reply};
+ghost use Rattle.machine.specs.Events.{Event, Ask, Send, Forge, ScriptView, IsScript};
 ghost use Rattle.machine.specs.Setup.{Setup, setup_of};
 ghost use Rattle.machine.specs.Low.{place_of, is_low, low};
 ghost use Rattle.machine.specs.Sends.{Sending, sending_of};
 ghost use Rattle.machine.specs.Given.{has_piece, has_all, has_later};
 ghost use Rattle.machine.specs.Files.{CallRow};
 ghost use Rattle.machine.specs.Plan.{reply};
-ghost use Rattle.machine.specs.Machine.{State, handed, gives, Message, given_to, after, state, told, state_at};
-ghost use Rattle.machine.specs.FalseBytes.{IsFrame, IsFirstFalse};
+ghost use Rattle.machine.specs.Machine.{State, handed, gives, given_to, after, state, told, state_at};
+ghost use Rattle.machine.specs.FalseBytes.{IsSentFrame, IsFirstFalse};
 ghost use Rattle.machine.specs.Text.{text_below};
-ghost use Rattle.machine.specs.Laws.{HandsOver, HasArrived, AreInOrder, content_in, ReadsDown, OneFrame, FramesApart, replies_to, StaysAt, AreSmall};
+ghost use Rattle.machine.specs.Laws.{HandsOver, HasArrived, AreInOrder, content_in, ReadsDown, OneFrame, IsOneAtMost, FramesApart, replies_to, StaysAt, AreSmall};
+
+use frame::each_piece_has_a_frame_of_its_own;
 
 // ---- what arrives and is given
 
@@ -53,15 +56,18 @@ pub fn one_message_at_a_time()
 {}
 
 /// An event gives a party one message at most, where a forged frame is the frame of pieces of one
-/// message at most.
+/// message at most; in a script it always is.
 pub fn one_message_at_most()
     ensures one { (m : Setup) (x : State) (e : Event) (s s' u : Party) (j j' : ℕ) →
         OneFrame m x e → gives m x e s u j ≡ true → gives m x e s' u j' ≡ true →
         (s' ≡ s) × (j' ≡ j) }
     ensures given { (m : Setup) (x : State) (e : Event) (u : Party) →
-        OneFrame m x e → IsRoster m.roster →
-        (given_to m x e u ≡ []) ⊎ ((l : Message) × (given_to m x e u ≡ l ∷ [])) }
-{}
+        OneFrame m x e → IsRoster m.roster → IsOneAtMost (given_to m x e u) }
+    ensures script { (script : ScriptView) (n : ℕ) (e : Event) (u : Party) → IsScript script →
+        IsOneAtMost (given_to (setup_of script) (state_at script n) e u) }
+{
+    each_piece_has_a_frame_of_its_own();
+}
 
 // ---- events
 
@@ -82,7 +88,7 @@ pub fn an_ask_is_its_send()
 /// that was sent.
 pub fn a_forged_frame_arrives()
     ensures { (m : Setup) (x : State) (bytes : List ℕ) (s u : Party) (j i : ℕ) →
-        (HandsOver m x (Forge u bytes) s u j i ↔ IsFrame m x s u j i bytes) }
+        (HandsOver m x (Forge u bytes) s u j i ↔ IsSentFrame m x s u j i bytes) }
 {}
 
 /// One event at most is the first at which false bytes open.
@@ -96,18 +102,26 @@ pub fn one_event_is_the_first_false_one()
 /// A frame stays the frame of its piece.
 pub fn a_frame_stays()
     ensures { (m : Setup) (x : State) (e : Event) (s u : Party) (j i : ℕ) (bytes : List ℕ) →
-        IsFrame m x s u j i bytes → IsFrame m (after m e x) s u j i bytes }
+        IsSentFrame m x s u j i bytes → IsSentFrame m (after m e x) s u j i bytes }
 {}
 
-/// Pieces of different messages to one unit have different frames, by the laws of the sealing.
+/// In every state of a script each message that was sent fits frames.
+pub fn messages_fit_frames()
+    ensures { (script : ScriptView) (n : ℕ) → IsScript script → AreSmall (state_at script n) }
+{
+    each_piece_has_a_frame_of_its_own();
+}
+
+/// Different pieces to one unit have different frames, by the laws of the sealing.
 pub fn frames_are_apart()
     ensures setup { (m : Setup) (past : List Event) →
         IsSealing m.sealed → IsRoster m.roster → AreSmall (state m past) →
         FramesApart m (state m past) }
-    ensures script { (script : ScriptView) (n : ℕ) →
-        IsRoster script.roster → AreSmall (state_at script n) →
+    ensures script { (script : ScriptView) (n : ℕ) → IsScript script →
         FramesApart (setup_of script) (state_at script n) }
-{}
+{
+    each_piece_has_a_frame_of_its_own();
+}
 
 // ---- files
 
@@ -119,12 +133,23 @@ pub fn files_are_read_down()
         ReadsDown m.roster before c version content }
 {}
 
+/// Every reply has its fields in their ranges, so that one spelling is that of this reply alone.
+pub fn replies_keep_their_ranges()
+    ensures { (m : Setup) (before : List CallRow) (c : CallRow) →
+        is_reply (reply m before c) ≡ true }
+{}
+
 /// What a manager unit has sent to a party are the replies to that party's calls, in order.
 pub fn managers_send_replies()
-    ensures { (m : Setup) (past : List Event) (p : Partition) (r : Party) →
+    ensures setup { (m : Setup) (past : List Event) (p : Partition) (r : Party) →
         FramesApart m (state m past) → IsRoster m.roster →
         (state m past).sent (Manager p) r ≡ replies_to m (Manager p) r (state m past).calls }
-{}
+    ensures script { (script : ScriptView) (n : ℕ) (p : Partition) (r : Party) → IsScript script →
+        (let x = state_at script n in
+        x.sent (Manager p) r ≡ replies_to (setup_of script) (Manager p) r x.calls) }
+{
+    each_piece_has_a_frame_of_its_own();
+}
 
 // ---- the low part
 
