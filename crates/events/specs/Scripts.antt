@@ -3,7 +3,10 @@ use Rattle.std.specs.Prelude.{◌≡◌, ℕ, ◌+◌, ◌<◌, ◌≤◌, ◌^�
 use Rattle.std.specs.List.{AllByRecursion}
 use Rattle.levels.specs.declared.level.Party.{Party}
 use Rattle.levels.specs.declared.level.Party.TheVariants.{Host}
+use Rattle.levels.specs.declared.level.Sealing.{Sealing}
+use Rattle.levels.specs.declared.level.Sealing.TheVariants.{Clear, Des}
 use Rattle.levels.specs.Rosters.{RosterView, partition_of}
+use Rattle.levels.specs.Keys.{pairs_of}
 use Rattle.levels.specs.Kept.{IsRoster, IsComplete}
 use Rattle.events.specs.declared.event.Event.{Event}
 use Rattle.events.specs.declared.event.Event.TheVariants.{Send, Arrive, Carry}
@@ -55,6 +58,15 @@ AddsEvent old new event (Err Name) = (is_named old.roster event ≡ false) × (n
 AddsEvent old new event (Err Many) = (is_named old.roster event ≡ true) × (length old.events ≡ 100000) × (new ≡ old)
 AddsEvent old new event (Err OutOfMemory) = (is_named old.roster event ≡ true) × (length old.events < 100000) × (new ≡ old)
 
--- the line of an event: above it stand the version, the levels, the hosts and the beginning
+abbrev pub key_lines_under : Sealing → ℕ → ℕ
+key_lines_under Clear pairs = 0
+key_lines_under Des pairs = pairs + 1
+
+-- how many lines say the sealing and the key pairs: none under clear sealing
+abbrev pub key_lines : RosterView → ℕ
+key_lines roster = key_lines_under roster.sealing (length (pairs_of roster))
+
+-- the line of an event: above it stand the version, the levels, their keys, the hosts and the beginning
 abbrev pub line_of : ScriptView → ℕ → ℕ
-line_of script event = length script.roster.levels + length script.roster.hosts + event + 3
+line_of script event =
+    length script.roster.levels + key_lines script.roster + length script.roster.hosts + event + 3

@@ -5,7 +5,7 @@ ghost use Rattle.events.specs.Scripts.{is_known, is_named, EventFits, HasPieceNu
 ghost use Rattle.events.specs.declared.script.ScriptStop.TheVariants.{OutOfMemory};
 
 use crate::event::Event;
-use levels::{Party, Roster};
+use levels::{Party, Roster, Sealing};
 use std::alloc::{AllocFailed, Global};
 use std::marker::Model;
 
@@ -102,7 +102,12 @@ impl Script {
         requires { event < length self.now.events }
         ensures { result ≡ line_of self.now event }
     {
-        u32::from(self.roster.level_count()) + u32::from(self.roster.host_count()) + event + 3
+        let roster = &self.roster;
+        let keys = match roster.sealing() {
+            Sealing::Clear => 0,
+            Sealing::Des => u32::from(roster.key_count()) + 2,
+        };
+        u32::from(roster.level_count()) + keys + u32::from(roster.host_count()) + event + 3
     }
 
     pub fn roster(&self) -> &Roster
