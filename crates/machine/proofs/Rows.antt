@@ -8,7 +8,7 @@ use Rattle.levels.specs.declared.level.Party.{Party}
 use Rattle.levels.specs.declared.level.Party.TheVariants.{Host, Manager}
 use Rattle.levels.specs.declared.level.Sealing.TheVariants.{Clear}
 use Rattle.levels.specs.Rosters.{RosterView}
-use Rattle.seal_core.specs.declared.KeyPair.{KeyPair}
+use Rattle.levels.specs.Keys.{clear_pair}
 use Rattle.seal_core.specs.Clear.{clear_text, clear_check}
 use Rattle.seal_core.specs.Blocks.{blocks, first_blocks}
 use Rattle.frame.specs.Pieces.{piece_count, piece_bytes, padded}
@@ -36,15 +36,14 @@ use Rattle.machine.specs.Text.{hosts_in_order, text, text_below, wire_text}
 abbrev partition : ℕ → Partition
 partition p = record { 0 = p }
 
-abbrev keys_of : ℕ → KeyPair
-keys_of n = record { main = replicate 8 0; check = replicate 8 n }
-
 -- levels U and S, hosts 1 and 2 at U, hosts 5 and 6 at S
 abbrev roster_a : RosterView
 roster_a = record {
   sealing = Clear;
   levels = record { name = codes "U"; level = record { rank = 0; cats = 0 } }
       ∷ record { name = codes "S"; level = record { rank = 2; cats = 1 } } ∷ [];
+  keys = [];
+  guard = None;
   hosts = record { address = 1; partition = partition 0 }
       ∷ record { address = 2; partition = partition 0 }
       ∷ record { address = 5; partition = partition 1 }
@@ -54,8 +53,6 @@ roster_a = record {
 abbrev script_of : List PlanRow → List Event → ScriptView
 script_of rows events = record {
   roster = roster_a;
-  keys = keys_of 1 ∷ keys_of 2 ∷ [];
-  guard = Some (keys_of 255);
   rows = rows;
   events = events;
 }
@@ -393,13 +390,13 @@ blocks_2 = refl
 -- ---- the record of a file
 
 -- of a Put of `note` with two bytes, as the first version of the lowest level
-record_row : take 64 (record_of clear_text (keys_of 255) 0 note 0 1 (97 ∷ 98 ∷ []))
+record_row : take 64 (record_of clear_text (clear_pair 255) 0 note 0 1 (97 ∷ 98 ∷ []))
     ≡ version 1 ++ (0 ∷ 4 ∷ 0 ∷ 2 ∷ replicate 4 0) ++ version 1
     ++ note ++ replicate 28 0 ++ 97 ∷ 98 ∷ replicate 6 0
 unfolding record_of record_nonce record_plain clear_text clear_check blocks first_blocks
 record_row = refl
 
-record_length : length (record_of clear_text (keys_of 255) 0 note 0 1 (97 ∷ 98 ∷ [])) ≡ 72
+record_length : length (record_of clear_text (clear_pair 255) 0 note 0 1 (97 ∷ 98 ∷ [])) ≡ 72
 unfolding record_of record_nonce record_plain clear_text clear_check blocks first_blocks
 record_length = refl
 

@@ -1,5 +1,5 @@
 -- What a script holds. (Stand-ins for their own crate.)
-use Rattle.std.specs.Prelude.{◌≡◌, ℕ, ◌≤◌, List, length, true, Option, slice_get}
+use Rattle.std.specs.Prelude.{◌≡◌, ℕ, ◌≤◌, List, length, true}
 use Rattle.std.specs.List.{AllByRecursion}
 use Rattle.levels.specs.Kept.{IsRoster}
 use Rattle.seal_core.specs.Blocks.{AreBytes}
@@ -7,7 +7,6 @@ use Rattle.file_calls.specs.Spelling.{is_call}
 use Rattle.levels.specs.declared.level.Party.{Party}
 use Rattle.levels.specs.declared.level.Partition.{Partition}
 use Rattle.levels.specs.Rosters.{RosterView}
-use Rattle.seal_core.specs.declared.KeyPair.{KeyPair}
 use Rattle.events.specs.declared.event.Stream.{Stream}
 use Rattle.file_calls.specs.declared.call.Call.{Call}
 use Rattle.untrusted_store.specs.declared.plan.PlanRow.{PlanRow}
@@ -22,13 +21,8 @@ pub data Event : Type 0 where
 
 pub record ScriptView : Type 0 where
   pub roster : RosterView
-  pub keys : List KeyPair
-  pub guard : Option KeyPair
   pub rows : List PlanRow
   pub events : List Event
-
-abbrev pub keys_at : ScriptView → Partition → Option KeyPair
-keys_at script partition = slice_get script.keys partition.0
 
 abbrev pub EventFits : Event → Type 0
 EventFits (Send from to message) = AreBytes message

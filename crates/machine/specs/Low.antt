@@ -38,8 +38,6 @@ low_events roster level events = filter (λ e. is_low roster level (place_of e))
 abbrev pub low : Level → ScriptView → ScriptView
 low level script = record {
   roster = script.roster;
-  keys = script.keys;
-  guard = script.guard;
   rows = low_rows script.roster level script.rows;
   events = low_events script.roster level script.events;
 }
