@@ -1,6 +1,6 @@
 -- Tests, parties and lists.
 use Rattle.std.proofs.Common.{◌≡◌, ℕ, zero, suc, List, [], ◌∷◌, ◌++◌, ◌&&◌, ◌||◌, Bool, true, false, Some, refl, ap, ◌⊎◌, inl, inr, arith}
-use Rattle.std.specs.Prelude.{slice_get, ◌==◌}
+use Rattle.std.specs.Prelude.{slice_get, filter, ◌==◌}
 use Rattle.std.specs.List.{list_all, AllByRecursion}
 use Rattle.std.proofs.lemmas.Bool.Decides.{nat_tests}
 use Rattle.std.proofs.lemmas.List.Folds.{list_any-append}
@@ -56,3 +56,7 @@ pub all_joined : {A : Type 0} (Q : A → Type 0) (xs ys : List A) → AllByRecur
     → AllByRecursion Q (xs ++ ys)
 all_joined Q [] ys left right = right
 all_joined Q (x ∷ xs) ys left right = (left.0, all_joined Q xs ys left.1 right)
+
+pub none_passes : (P : ℕ → Bool) (xs : List ℕ) → ((k : ℕ) → P k ≡ false) → filter P xs ≡ []
+none_passes P [] none = refl
+none_passes P (x ∷ xs) none = rw (none x) (none_passes P xs none)

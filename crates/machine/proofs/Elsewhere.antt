@@ -22,8 +22,9 @@ use Rattle.machine.specs.Files.{CallRow}
 use Rattle.machine.specs.Plan.{reply}
 use Rattle.machine.specs.Machine.{State, Message, parties, piece_frame, hands, handed_of, gives, numbers_given, given_from, given_to, calls_to, is_answered_on, sent_by, lines_by, after}
 use Rattle.machine.specs.Laws.{StaysAt}
-use Rattle.machine.proofs.Basics.{bool_cases}
+use Rattle.machine.proofs.Basics.{bool_cases, none_passes}
 use Rattle.machine.proofs.Giving.{gives_what_it_hands}
+use Rattle.machine.proofs.OneMessage.{given_none}
 
 clash : (b : Bool) → b ≡ true → b ≡ false → ⊥
 clash b t f = cc
@@ -40,10 +41,6 @@ not_hands m (Forge at bytes) s u j body i other =
 not_hands m (Send from to message) s u j body i other = refl
 not_hands m (Ask from call) s u j body i other = refl
 not_hands m (Tamper stream message piece at edits) s u j body i other = refl
-
-none_passes : (P : ℕ → Bool) (xs : List ℕ) → ((i : ℕ) → P i ≡ false) → filter P xs ≡ []
-none_passes P [] none = refl
-none_passes P (x ∷ xs) none = rw (none x) (none_passes P xs none)
 
 pub none_handed : (m : Setup) (e : Event) (s u : Party) (j : ℕ) (messages : List (List ℕ))
     → is_same_party (place_of e) u ≡ false → handed_of m e s u j messages ≡ []
@@ -67,14 +64,9 @@ pub none_given : (m : Setup) (x : State) (e : Event) (s u : Party) → is_same_p
 none_given m x e s u other =
     none_passes (gives m x e s u) (range_with_len 0 (length (x.sent s u))) (λ j. not_gives m x e s u j other)
 
-none_from : (m : Setup) (x : State) (e : Event) (u : Party) (ts : List Party)
-    → is_same_party (place_of e) u ≡ false → flat_map (given_from m x e u) ts ≡ []
-none_from m x e u [] other = refl
-none_from m x e u (t ∷ ts) other = rw (none_given m x e t u other) (none_from m x e u ts other)
-
 none_to : (m : Setup) (x : State) (e : Event) (u : Party) → is_same_party (place_of e) u ≡ false
     → given_to m x e u ≡ []
-none_to m x e u other = none_from m x e u (parties m.roster) other
+none_to m x e u other = given_none m x e u (λ s j. not_gives m x e s u j other)
 
 ask_at : (o : Option Partition) (from : ℕ) (call : Call) (x : Sending)
     → option_map (λ p. record { from = Host from; to = Manager p; message = call_text call }) o ≡ Some x

@@ -22,7 +22,7 @@ use Rattle.machine.proofs.Basics.{bool_cases, same_party}
 use Rattle.machine.proofs.InOrder.{nothing_by}
 use Rattle.machine.proofs.Elsewhere.{none_sent, stays_at}
 use Rattle.machine.proofs.Levels.{partner_low, partner_level, at_most_self}
-use Rattle.machine.proofs.Private.{is_low_call, low_calls, low_setup, reply_low}
+use Rattle.machine.proofs.LowReplies.{is_low_call, low_calls, low_setup, reply_low}
 
 -- x, on the low part, agrees with y, on the whole
 pub record Agrees (roster : RosterView) (level : Level) (x y : State) : Type 0 where

@@ -50,7 +50,9 @@ record NamesFit (names : Directory) : Type 0 where
 
 is_list : (names : Directory) → NamesFit names → is_name_list (keys_of names) ≡ true
 is_list names fit =
-    let room : length (keys_of names) ≤ 128 = let n = length-keys_of names in let m = fit.room in omega (arith, n, m) in
+    let count = length-keys_of names in
+    let few = fit.room in
+    let room : length (keys_of names) ≤ 128 = omega (arith, count, few) in
     let short : nat_le (length (keys_of names)) 128 ≡ true = grind (arith, nat_tests) in
     rw (short, are_names names fit.entries, keys_rise names fit.rising) refl
 
@@ -213,7 +215,9 @@ sight_fits roster p before = record {
 content_there : (writes : List Write) (k : ℕ) (w : Write) → HoldContents writes → slice_get writes k ≡ Some w
     → is_content w.content ≡ true
 content_there [] k w all is = cc
-content_there (x ∷ writes) zero w all is = let same : x ≡ w = cc in ap (λ (y : Write). is_content y.content) (sym same) ∙ all.0
+content_there (x ∷ writes) zero w all is =
+    let same : x ≡ w = cc in
+    ap (λ (y : Write). is_content y.content) (sym same) ∙ all.0
 content_there (x ∷ writes) (suc k) w all is = content_there writes k w all.1 is
 
 written_content : (writes : List Write) (v : ℕ) (o : Option Write) (content : List ℕ) → HoldContents writes

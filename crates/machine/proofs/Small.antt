@@ -24,9 +24,9 @@ use Rattle.machine.specs.Plan.{reply}
 use Rattle.machine.specs.Machine.{State, calls_by, is_answered_on, replies, sent_by, after, state, state_at}
 use Rattle.machine.specs.Laws.{FramesApart, IsSmallMessage, AreSmall}
 use Rattle.machine.proofs.Basics.{bool_cases, both, same_party, all_joined}
-use Rattle.machine.proofs.Apart.{parties_apart}
-use Rattle.machine.proofs.Single.{one_frame}
-use Rattle.machine.proofs.Wording.{one_call_or_none}
+use Rattle.machine.proofs.PartiesApart.{parties_apart}
+use Rattle.machine.proofs.OneMessage.{one_frame}
+use Rattle.machine.proofs.OneMessage.{one_call_or_none}
 use Rattle.machine.proofs.FramesApart.{PiecesApart, frames_apart, sealer_seals}
 use Rattle.machine.proofs.ReplyRange.{reply_in_range}
 use Rattle.machine.proofs.Texts.{AreFew, call_few, reply_few}
@@ -126,7 +126,8 @@ reached pieces m (e ∷ past) laws is short all =
 -- in the states of setups whose events send bytes
 pub small_state : PiecesApart → (m : Setup) (past : List Event) → IsSealing m.sealed → IsRoster m.roster
     → length past < 2 ^ 31 → AllByRecursion (SendsBytes m.roster) past → AreSmall (state m past)
-small_state pieces m past laws is short all = are_small (state m past) (length past) short (reached pieces m past laws is short all)
+small_state pieces m past laws is short all =
+    are_small (state m past) (length past) short (reached pieces m past laws is short all)
 
 -- ---- scripts
 
@@ -138,8 +139,10 @@ ask_bytes roster from call (Some p) x good is =
     let same : call_text call ≡ x.message = cc in subst AreBytes same (call_few call good).bytes
 
 sends_bytes : (roster : RosterView) (e : Event) → EventFits e → SendsBytes roster e
-sends_bytes roster (Send from to message) fits = λ x is. (let same : message ≡ x.message = cc in subst AreBytes same fits)
-sends_bytes roster (Ask from call) fits = λ x is. ask_bytes roster from call (partition_of roster (Host from)) x fits is
+sends_bytes roster (Send from to message) fits = λ x is.
+    (let same : message ≡ x.message = cc in subst AreBytes same fits)
+sends_bytes roster (Ask from call) fits = λ x is.
+    ask_bytes roster from call (partition_of roster (Host from)) x fits is
 sends_bytes roster (Arrive stream message piece at) fits = λ x is. cc
 sends_bytes roster (Carry stream message at) fits = λ x is. cc
 sends_bytes roster (Forge at bytes) fits = λ x is. cc
@@ -167,12 +170,15 @@ small_at pieces script n is =
     let back = length-reverse (take n script.events) in
     let part = length-take n script.events in
     let room = is.room in
-    small_state pieces (setup_of script) (reverse (take n script.events)) (sealer_seals script.roster.sealing) is.roster
+    small_state pieces (setup_of script) (reverse (take n script.events))
+    (sealer_seals script.roster.sealing) is.roster
     (omega (arith, back, part, room))
     (all_reversed (SendsBytes script.roster) (take n script.events)
     (all_taken (SendsBytes script.roster) n script.events (all_send script.roster script.events is.events)))
 
-pub apart_at : PiecesApart → (script : ScriptView) (n : ℕ) → IsScript script → FramesApart (setup_of script) (state_at script n)
+pub apart_at : PiecesApart → (script : ScriptView) (n : ℕ) → IsScript script
+    → FramesApart (setup_of script) (state_at script n)
 apart_at pieces script n is =
-    frames_apart pieces (setup_of script) (reverse (take n script.events)) (sealer_seals script.roster.sealing) is.roster
+    frames_apart pieces (setup_of script) (reverse (take n script.events))
+    (sealer_seals script.roster.sealing) is.roster
     (small_at pieces script n is)

@@ -69,7 +69,8 @@ content_few content h =
     few_joined 2 4096 (to_be_bytes w16 (length content)) content (half_word (length content))
     (record { bytes = are_bytes content t.1; few = grind (arith, nat_tests, t.0) })
 
-names_few : (names : List (List ℕ)) → list_all is_name names ≡ true → AreFew (33 * length names) (flat_map name_text names)
+names_few : (names : List (List ℕ)) → list_all is_name names ≡ true
+    → AreFew (33 * length names) (flat_map name_text names)
 names_few [] h = none
 names_few (name ∷ names) h =
     let t = both (is_name name) (list_all is_name names) h in

@@ -1,5 +1,5 @@
-use Rattle.machine.proofs.Single.{forged}
-use Rattle.machine.proofs.Wording.{is_forged}
+use Rattle.machine.proofs.OneMessage.{forged}
+use Rattle.machine.proofs.OneMessage.{is_forged}
 use Rattle.machine.proofs.laws.a_forged_frame_arrives.Goals as goal
 
 pub returns : goal.returns

@@ -1,4 +1,4 @@
-use Rattle.machine.proofs.Wording.{ask_is_send}
+use Rattle.machine.proofs.AskSends.{ask_is_send}
 use Rattle.machine.proofs.laws.an_ask_is_its_send.Goals as goal
 
 pub returns : goal.returns

@@ -1,7 +1,7 @@
 use Rattle.std.proofs.Common.{reverse, take}
 use Rattle.machine.specs.Setup.{setup_of}
-use Rattle.machine.proofs.Apart.{parties_apart}
-use Rattle.machine.proofs.Wording.{sent_are_replies}
+use Rattle.machine.proofs.PartiesApart.{parties_apart}
+use Rattle.machine.proofs.ManagerReplies.{sent_are_replies}
 use Rattle.machine.proofs.Small.{apart_at}
 use Rattle.machine.proofs.laws.managers_send_replies.Goals as goal
 

@@ -1,8 +1,8 @@
 use Rattle.machine.specs.Setup.{setup_of}
 use Rattle.machine.specs.Machine.{state_at}
-use Rattle.machine.proofs.Apart.{parties_apart}
-use Rattle.machine.proofs.Single.{gives_alone, one_frame}
-use Rattle.machine.proofs.Wording.{one_or_none}
+use Rattle.machine.proofs.PartiesApart.{parties_apart}
+use Rattle.machine.proofs.OneMessage.{gives_alone, one_frame}
+use Rattle.machine.proofs.OneMessage.{one_or_none}
 use Rattle.machine.proofs.Small.{apart_at}
 use Rattle.machine.proofs.laws.one_message_at_most.Goals as goal
 

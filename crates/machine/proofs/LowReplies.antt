@@ -18,7 +18,7 @@ use Rattle.machine.specs.Replies.{Question, Sight, sight, is_below, question_by,
 use Rattle.machine.specs.Plan.{question_of, question_count, next_action, is_intact, intact_content, reply}
 use Rattle.machine.proofs.Basics.{bool_cases}
 use Rattle.machine.proofs.Levels.{below_low}
-use Rattle.machine.proofs.Asked.{asked_below}
+use Rattle.machine.proofs.Questions.{asked_below}
 
 abbrev pub is_low_at : RosterView → Level → ℕ → Bool
 is_low_at roster level p = is_low roster level (Manager (record { 0 = p }))
@@ -71,7 +71,7 @@ sight_low : (roster : RosterView) (level : Level) (p : ℕ) (cs : List CallRow) 
     → sight roster p (low_calls roster level cs) ≡ sight roster p cs
 sight_low roster level p cs low =
     let names : (sight roster p (low_calls roster level cs)).below ≡ (sight roster p cs).below =
-    λ i q. names_low roster level p cs low q i in
+        λ i q. names_low roster level p cs low q i in
     ap₂ seen (files_low roster level p cs low) names
 
 asked_low : (roster : RosterView) (level : Level) (cs : List CallRow) (c : CallRow)

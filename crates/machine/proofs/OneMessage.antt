@@ -1,21 +1,35 @@
 -- An event gives one message at most: the one of which it hands over a piece.
-use Rattle.std.proofs.Common.{◌≡◌, ◌≢◌, ℕ, zero, suc, ◌+◌, ◌<◌, ◌≤◌, List, [], ◌∷◌, ◌&&◌, length, map, Bool, true, false, refl, sym, ap, ap₂, subst, ◌∙◌, inl, inr, arith}
-use Rattle.std.specs.Prelude.{◌==◌, filter, bytes_eq, if◌then◌else◌}
-use Rattle.std.specs.List.{flat_map, range_with_len}
+use Rattle.std.proofs.Common.{◌≡◌, ◌≢◌, ℕ, zero, suc, ◌+◌, ◌<◌, ◌≤◌, List, [], ◌∷◌, ◌&&◌, length, map, Bool, true, false, refl, sym, ap, ap₂, subst, ◌∙◌, inl, inr, arith, ◌++◌, Option, Some, None, ◌⊎◌, append-nil}
+use Rattle.std.specs.Prelude.{◌==◌, filter, bytes_eq, if◌then◌else◌, slice_get, not, nat_lt}
+use Rattle.std.specs.List.{flat_map, range_with_len, list_any, list_all}
 use Rattle.std.proofs.lemmas.Bool.Decides.{nat_tests}
 use Rattle.std.proofs.lemmas.Option.{slice_get_within}
 use Rattle.std.proofs.lemmas.Slice.Eq.{bytes_eq-Decides}
 use Rattle.levels.specs.declared.level.Party.{Party}
-use Rattle.levels.specs.Rosters.{is_same_party}
+use Rattle.levels.specs.Rosters.{is_same_party, RosterView, partition_of}
 use Rattle.events.specs.declared.event.Stream.{Stream}
 use Rattle.machine.specs.Events.{Event, Send, Ask, Arrive, Carry, Forge, Tamper}
 use Rattle.machine.specs.Setup.{Setup}
-use Rattle.machine.specs.Machine.{State, piece_frame, is_between, gives, Message, message_of, given_from, given_to, parties}
+use Rattle.machine.specs.Machine.{State, piece_frame, is_between, gives, Message, message_of, given_from, given_to, parties, handed, numbers_given, calls_to, calls_by, is_answered_on, replies, sent_by, after, state}
 use Rattle.machine.specs.FalseBytes.{IsSentFrame}
-use Rattle.machine.specs.Laws.{HandsOver, OneFrame, FramesApart}
-use Rattle.machine.proofs.Basics.{bool_cases, both, same_number, same_party, own_party}
+use Rattle.machine.specs.Laws.{HandsOver, OneFrame, FramesApart, replies_to}
+use Rattle.machine.proofs.Basics.{none_passes, bool_cases, both, same_number, same_party, own_party, found_still}
 use Rattle.machine.proofs.Giving.{gives_what_it_hands}
-use Rattle.machine.proofs.Apart.{is_in, Apart, only_one}
+use Rattle.machine.proofs.PartiesApart.{is_in, Apart, only_one}
+use Rattle.std.specs.Option.{option_map}
+use Rattle.std.proofs.lemmas.Bool.{or_right}
+use Rattle.levels.specs.declared.level.Partition.{Partition}
+use Rattle.levels.specs.declared.level.Party.TheVariants.{Host, Manager}
+use Rattle.frame.specs.Pieces.{pieces, piece_count}
+use Rattle.file_calls.specs.declared.call.Call.{Call}
+use Rattle.file_calls.specs.Spelling.{call_text, reply_text}
+use Rattle.machine.specs.declared.line.OutLine.TheVariants.{From}
+use Rattle.machine.specs.Low.{place_of}
+use Rattle.machine.specs.Sends.{Sending, sending_of, sent_on, answers}
+use Rattle.machine.specs.Given.{has_piece, has_all, has_later}
+use Rattle.machine.specs.Files.{CallRow}
+use Rattle.machine.specs.Plan.{reply}
+use Rattle.machine.proofs.Order.{AllWhole, given_is}
 
 -- an event that gives message j of s to u gives no other to u
 abbrev pub GivesAlone : Setup → State → Event → Party → Party → ℕ → Type 0
@@ -83,10 +97,6 @@ gives_alone m x e s u j one given = λ s' j' given'. (
     let b = gives_what_it_hands m x e s' u j' given' in
     hands_one m x e s s' u j j' a.0 b.0 one a.1 b.1)
 
-none_passes : (P : ℕ → Bool) (xs : List ℕ) → ((k : ℕ) → P k ≡ false) → filter P xs ≡ []
-none_passes P [] none = refl
-none_passes P (x ∷ xs) none = rw (none x) (none_passes P xs none)
-
 past_it : (P : ℕ → Bool) (j a n : ℕ) → ((k : ℕ) → P k ≡ true → k ≡ j) → j < a
     → filter P (range_with_len a n) ≡ []
 past_it P j a zero only lt = refl
@@ -153,50 +163,74 @@ pub given_none : (m : Setup) (x : State) (e : Event) (u : Party)
     → ((s : Party) (j : ℕ) → gives m x e s u j ≡ false) → given_to m x e u ≡ []
 given_none m x e u none = none_from m x e u (parties m.roster) none
 
--- ---- what a named piece or message gives, for the engine
+pub is_forged : (m : Setup) (x : State) (bytes : List ℕ) (s u : Party) (j i : ℕ) → IsSentFrame m x s u j i bytes
+    → HandsOver m x (Forge u bytes) s u j i
+is_forged m x bytes s u j i h =
+    record {
+      body = h.body;
+      sent = h.sent;
+      piece = h.piece;
+      hands =
+          rw (own_party u) ((bytes_eq-Decides bytes (piece_frame m s u j h.body i)).1 h.same);
+    }
 
-abbrev given_if : Bool → Message → List Message
-given_if on l = if on then l ∷ [] else []
 
-none_of : (m : Setup) (x : State) (e : Event) (s u : Party) (j : ℕ) → gives m x e s u j ≡ false
-    → ((s' : Party) (j' : ℕ) → gives m x e s' u j' ≡ true → (s' ≡ s) × (j' ≡ j)) → (s' : Party) (j' : ℕ)
-    → gives m x e s' u j' ≡ false
-none_of m x e s u j off only s' j' = elim (bool_cases (gives m x e s' u j')) [
-  | inl on ↦
-      (let t = only s' j' on in let same : gives m x e s u j ≡ true =
-      sym (ap₂ (λ (a : Party) (b : ℕ). gives m x e a u b) t.0 t.1) ∙ on in cc)
-  | inr other ↦ other
+filter_cases : (P : ℕ → Bool) (xs : List ℕ) → (filter P xs ≡ []) ⊎ ((k : ℕ) × (P k ≡ true))
+filter_cases P [] = inl refl
+filter_cases P (x ∷ xs) = elim (bool_cases (P x)) [
+  | inl on ↦ inr (x, on)
+  | inr off ↦ elim (filter_cases P xs) [ inl none ↦ inl (rw off none) | inr some ↦ inr some ]
 ]
 
--- where an event gives one message alone, if it gives it
-by_one : (m : Setup) (x : State) (e : Event) (s u : Party) (j : ℕ) → Apart (parties m.roster)
-    → is_in s (parties m.roster) ≡ true
-    → ((s' : Party) (j' : ℕ) → gives m x e s' u j' ≡ true → (s' ≡ s) × (j' ≡ j))
-    → given_to m x e u ≡ given_if (gives m x e s u j) (message_of s (x.sent s u) j)
-by_one m x e s u j apart known only = elim (bool_cases (gives m x e s u j)) [
-  | inl on ↦ rw on (given_one m x e s u j apart known on only)
-  | inr off ↦ rw off (given_none m x e u (λ s' j'. none_of m x e s u j off only s' j'))
+record GivesSome (m : Setup) (x : State) (e : Event) (u : Party) (ts : List Party) : Type 0 where
+  from : Party
+  number : ℕ
+  there : is_in from ts ≡ true
+  gives : gives m x e from u number ≡ true
+
+given_cases : (m : Setup) (x : State) (e : Event) (u : Party) (ts : List Party)
+    → (flat_map (given_from m x e u) ts ≡ []) ⊎ GivesSome m x e u ts
+given_cases m x e u [] = inl refl
+given_cases m x e u (t ∷ ts) = elim (filter_cases (gives m x e t u) (range_with_len 0 (length (x.sent t u)))) [
+  | inr some ↦ inr (record { from = t; number = some.0; there = rw (own_party t); gives = some.1 })
+  | inl none ↦ elim (given_cases m x e u ts) [
+    | inl nothing ↦ inl (rw (none, nothing))
+    | inr later ↦
+        inr (record {
+          from = later.from;
+          number = later.number;
+          there =
+              or_right (is_same_party t later.from) (is_in later.from ts) later.there;
+          gives = later.gives;
+        })
+  ]
 ]
 
-pub given_by_arrive : (m : Setup) (x : State) (stream : Stream) (j i : ℕ) (at : Party)
-    → Apart (parties m.roster) → is_in stream.from (parties m.roster) ≡ true
-    → given_to m x (Arrive stream j i at) at
-    ≡ given_if (gives m x (Arrive stream j i at) stream.from at j)
-    (message_of stream.from (x.sent stream.from at) j)
-given_by_arrive m x stream j i at apart known = by_one m x (Arrive stream j i at) stream.from at j apart known
-    (λ s' j' on. (let h = (gives_what_it_hands m x (Arrive stream j i at) s' at j' on).1.hands in
-    let t =
-    both (is_between stream at s' at) (j == j') (both (is_between stream at s' at
-    && j == j') (i == (gives_what_it_hands m x (Arrive stream j i at) s' at j' on).0) h).0 in
-    (sym (from_of stream at s' at t.0), sym (same_number j j' t.1))))
+-- an event gives one message to u, or none
+pub one_or_none : (m : Setup) (x : State) (e : Event) (u : Party) → OneFrame m x e → Apart (parties m.roster)
+    → (given_to m x e u ≡ []) ⊎ ((l : Message) × (given_to m x e u ≡ l ∷ []))
+one_or_none m x e u one apart = elim (given_cases m x e u (parties m.roster)) [
+  | inl none ↦ inl none
+  | inr some ↦ inr (
+    message_of some.from (x.sent some.from u) some.number,
+    given_one m x e some.from u some.number apart some.there some.gives
+        (gives_alone m x e some.from u some.number one some.gives),
+  )
+]
 
-pub given_by_carry : (m : Setup) (x : State) (stream : Stream) (j : ℕ) (at : Party) → Apart (parties m.roster)
-    → is_in stream.from (parties m.roster) ≡ true
-    → given_to m x (Carry stream j at) at
-    ≡ given_if (gives m x (Carry stream j at) stream.from at j)
-    (message_of stream.from (x.sent stream.from at) j)
-given_by_carry m x stream j at apart known = by_one m x (Carry stream j at) stream.from at j apart known
-    (λ s' j' on. (let t =
-    both (is_between stream at s' at) (j == j')
-    (gives_what_it_hands m x (Carry stream j at) s' at j' on).1.hands in
-    (sym (from_of stream at s' at t.0), sym (same_number j j' t.1))))
+pub one_call_or_none : (m : Setup) (x : State) (e : Event) (u : Party) → OneFrame m x e → Apart (parties m.roster)
+    → (calls_to u (given_to m x e u) ≡ []) ⊎ ((c : CallRow) × (calls_to u (given_to m x e u) ≡ c ∷ []))
+one_call_or_none m x e (Host address) one apart = inl refl
+one_call_or_none m x e (Manager p) one apart = elim (one_or_none m x e (Manager p) one apart) [
+  | inl none ↦ inl (ap (calls_to (Manager p)) none)
+  | inr some ↦
+      inr (
+        record {
+          caller = some.0.from;
+          level = p.0;
+          message =
+              some.0.body;
+        },
+        ap (calls_to (Manager p)) some.1,
+      )
+]
