@@ -10,17 +10,11 @@ use Rattle.machine.specs.Setup.{setup_of}
 use Rattle.machine.specs.Given.{has_piece}
 use Rattle.machine.specs.Machine.{State, handed, after, state, state_at}
 use Rattle.machine.specs.Laws.{HandsOver, HasArrived}
-use Rattle.machine.proofs.Basics.{bool_cases, in_both}
+use Rattle.machine.proofs.Basics.{bool_cases, in_both, there_at}
 use Rattle.machine.proofs.Handing.{hands_over, handed_over}
 
 nat_cases : (i k : ℕ) → (i ≡ k) ⊎ (i ≢ k)
 nat_cases i k = grind arith
-
-pub event_there : (events : List Event) (n : ℕ) → n < length events
-    → (e : Event) × (slice_get events n ≡ Some e)
-event_there [] n lt = absurd (omega (arith, lt))
-event_there (e ∷ events) zero lt = (e, refl)
-event_there (e ∷ events) (suc n) lt = event_there events n (omega (arith, lt))
 
 -- one more event is the newest
 pub past_more : (events : List Event) (n : ℕ) (e : Event) → slice_get events n ≡ Some e
@@ -49,15 +43,15 @@ pub in_set : (script : ScriptView) (n : ℕ) (s u : Party) (j i : ℕ) → n ≤
 in_set script zero s u j i le h = let none = h.earlier in absurd (omega arith)
 in_set script (suc n) s u j i le h =
     let there : (e : Event) × (slice_get script.events n ≡ Some e) =
-        event_there script.events n (omega arith) in
+    there_at script.events n (omega arith) in
     let before = has_piece ((state_at script n).arrived s u) j i in
     let now = has_piece (handed (setup_of script) (state_at script n) there.0 s u) j i in
     one_more script n there.0 s u j i there.1 ∙ elim (nat_cases h.k n) [
       | inl last ↦
           let same : h.event ≡ there.0 =
-              same_Some h.event there.0 (sym h.there ∙ ap (slice_get script.events) last ∙ there.1) in
+          same_Some h.event there.0 (sym h.there ∙ ap (slice_get script.events) last ∙ there.1) in
           let moved : HandsOver (setup_of script) (state_at script n) h.event s u j i =
-              subst (λ k. HandsOver (setup_of script) (state_at script k) h.event s u j i) last h.hands in
+          subst (λ k. HandsOver (setup_of script) (state_at script k) h.event s u j i) last h.hands in
           or_left now before
           (handed_over (setup_of script) (state_at script n) there.0 s u j i
           (subst (λ e. HandsOver (setup_of script) (state_at script n) e s u j i) same moved))
@@ -77,7 +71,7 @@ pub of_set : (script : ScriptView) (n : ℕ) (s u : Party) (j i : ℕ) → n ≤
 of_set script zero s u j i le h = cc
 of_set script (suc n) s u j i le h =
     let there : (e : Event) × (slice_get script.events n ≡ Some e) =
-        event_there script.events n (omega arith) in
+    there_at script.events n (omega arith) in
     let both : (has_piece (handed (setup_of script) (state_at script n) there.0 s u) j i
     || has_piece ((state_at script n).arrived s u) j i) ≡ true =
     sym (one_more script n there.0 s u j i there.1) ∙ h in

@@ -35,7 +35,7 @@ ask_sends : (m : Setup) (from : ℕ) (call : Call) (o : Option Partition) (x : S
 ask_sends m from call None x is = cc
 ask_sends m from call (Some p) x is =
     let same : record { from = Host from; to = Manager p; message = call_text call } ≡ x =
-        cc in subst (λ (y : Sending). Some y ≡ sending_of m.roster (Send from y.to y.message)) same refl
+    cc in subst (λ (y : Sending). Some y ≡ sending_of m.roster (Send from y.to y.message)) same refl
 
 gives_of_none : (m : Setup) (x : State) (from : ℕ) (call : Call) (to : Party) (message : List ℕ) (s u : Party)
     (j : ℕ) → gives m x (Ask from call) s u j ≡ gives m x (Send from to message) s u j

@@ -1,5 +1,5 @@
 -- Tests, parties and lists.
-use Rattle.std.proofs.Common.{◌≡◌, ℕ, zero, suc, List, [], ◌∷◌, ◌++◌, ◌&&◌, ◌||◌, Bool, true, false, Some, refl, ap, ◌⊎◌, inl, inr, arith}
+use Rattle.std.proofs.Common.{◌≡◌, ℕ, zero, suc, List, [], ◌∷◌, ◌++◌, ◌&&◌, ◌||◌, Bool, true, false, Some, refl, ap, ◌⊎◌, inl, inr, arith, ◌+◌, ◌<◌, length}
 use Rattle.std.specs.Prelude.{slice_get, filter, ◌==◌}
 use Rattle.std.specs.List.{list_all, AllByRecursion}
 use Rattle.std.proofs.lemmas.Bool.Decides.{nat_tests}
@@ -60,3 +60,9 @@ all_joined Q (x ∷ xs) ys left right = (left.0, all_joined Q xs ys left.1 right
 pub none_passes : (P : ℕ → Bool) (xs : List ℕ) → ((k : ℕ) → P k ≡ false) → filter P xs ≡ []
 none_passes P [] none = refl
 none_passes P (x ∷ xs) none = rw (none x) (none_passes P xs none)
+
+-- what stands at a place below the length
+pub there_at : {A : Type 0} (xs : List A) (n : ℕ) → n < length xs → (x : A) × (slice_get xs n ≡ Some x)
+there_at [] n lt = absurd (omega (arith, lt))
+there_at (x ∷ xs) zero lt = (x, refl)
+there_at (x ∷ xs) (suc n) lt = there_at xs n (omega (arith, lt))

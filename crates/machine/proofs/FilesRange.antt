@@ -39,9 +39,9 @@ still_room false count room few = grind (arith, nat_tests)
 write_kept : (files : Files) (w : Writing) → Draws files w → InRange files → InRange (with_writing (Some w) files)
 write_kept files w draws range =
     let longer : length (w.front ++ w.version ∷ []) ≡ length w.front + 1 =
-        length-append w.front (w.version ∷ []) in
+    length-append w.front (w.version ∷ []) in
     let more : length (files.writes ++ write_of w ∷ []) ≡ length files.writes + 1 =
-        length-append files.writes (write_of w ∷ []) in
+    length-append files.writes (write_of w ∷ []) in
     let few = draws.few in
     let short = draws.short in
     let count = count_inserted files.names w.name (w.front ++ w.version ∷ []) range.rising in

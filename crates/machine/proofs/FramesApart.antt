@@ -211,9 +211,9 @@ frames_apart apart m past laws is small = λ s s' u j j' i i' bytes a b. (
     let x = piece_of (address_of s) (address_of u) one.p.0 j a.body i in
     let y = piece_of (address_of s') (address_of u) other.p.0 j' b.body i' in
     let same : frame_of m.sealed (m.keys one.p.0) x ≡ frame_of m.sealed (m.keys one.p.0) y =
-        sym (the_frame m s u one.p j a.body i one.there) ∙ sym a.same ∙ b.same
-        ∙ the_frame m s' u other.p j' b.body i' other.there
-        ∙ ap (λ n. frame_of m.sealed (m.keys n) y) (sym number) in
+    sym (the_frame m s u one.p j a.body i one.there) ∙ sym a.same ∙ b.same
+    ∙ the_frame m s' u other.p j' b.body i' other.there
+    ∙ ap (λ n. frame_of m.sealed (m.keys n) y) (sym number) in
     let x_fits = is_piece (address_of s) (address_of u) one.p.0 j a.body i k.address to.address k.number
     (small s u j a.body a.sent) a.piece in
     let y_fits = is_piece (address_of s') (address_of u) other.p.0 j' b.body i' k'.address to.address k'.number

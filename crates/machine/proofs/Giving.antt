@@ -45,7 +45,7 @@ none_given : (ahead : ℕ) (o : Option (List ℕ)) (new before : List (ℕ × �
     → has_some new j ≡ false → is_given ahead o before (new ++ before) given j ≡ false
 none_given ahead o new before given j none =
     let same =
-        has_all_alike o (new ++ before) before j (λ i. in_both new before j i ∙ rw (no_piece new j i none)) in
+    has_all_alike o (new ++ before) before j (λ i. in_both new before j i ∙ rw (no_piece new j i none)) in
     rw same
     (not_twice (has_all o before j) (not (has_later before (j + ahead))) (not (list_any (nat_lt j) given)))
 

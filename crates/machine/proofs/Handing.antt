@@ -117,13 +117,13 @@ is_handed m e s u k [] d j i body number there piece on = cc
 is_handed m e s u k (first ∷ messages) zero j i body number there piece on =
     let same : body ≡ first = cc in
     let held : has_piece (own m e s u k first) j i ≡ true =
-        own_held m e s u k first j i (omega arith) (subst (λ b. i < pieces b) same piece)
-        (subst (λ b. hands m e s u j b i ≡ true) same on) in
+    own_held m e s u k first j i (omega arith) (subst (λ b. i < pieces b) same piece)
+    (subst (λ b. hands m e s u j b i ≡ true) same on) in
     in_both (own m e s u k first) (handed_of m e s u (k + 1) messages) j i
     ∙ or_left (has_piece (own m e s u k first) j i) (has_piece (handed_of m e s u (k + 1) messages) j i) held
 is_handed m e s u k (first ∷ messages) (suc d) j i body number there piece on =
     let held : has_piece (handed_of m e s u (k + 1) messages) j i ≡ true =
-        is_handed m e s u (k + 1) messages d j i body (omega arith) there piece on in
+    is_handed m e s u (k + 1) messages d j i body (omega arith) there piece on in
     in_both (own m e s u k first) (handed_of m e s u (k + 1) messages) j i
     ∙ or_right (has_piece (own m e s u k first) j i) (has_piece (handed_of m e s u (k + 1) messages) j i) held
 

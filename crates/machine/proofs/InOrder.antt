@@ -141,8 +141,8 @@ told_more : (m : Setup) (e : Event) (x : State) (s r : Party) → Apart (parties
     → is_in s (parties m.roster) ≡ true → Given x s r → IsTold x s r → IsTold (after m e x) s r
 told_more m e x s r apart some given before =
     let now : bodies_from s (lines_by m x e r) ≡ bodies_at x s r (numbers_given m x e s r) =
-        told_now m x e s r
-        ∙ only_one s (λ t. bodies_at x t r (numbers_given m x e t r)) (parties m.roster) apart some in
+    told_now m x e s r
+    ∙ only_one s (λ t. bodies_at x t r (numbers_given m x e t r)) (parties m.roster) apart some in
     ap (map Some) (bodies-append s (x.told r) (lines_by m x e r))
     ∙ map-append Some (bodies_from s (x.told r)) (bodies_from s (lines_by m x e r))
     ∙ ap₂ (λ (a b : List (Option (List ℕ))). a ++ b)

@@ -94,12 +94,12 @@ pub low_of_low : (script : ScriptView) (own level : Level) → is_at_most own le
     → low own (low level script) ≡ low own script
 low_of_low script own level le =
     let rows =
-        filter_twice (λ (row : PlanRow). is_low script.roster own (Manager row.reader))
-        (λ (row : PlanRow). is_low script.roster level (Manager row.reader)) script.rows
-        (λ row. within_more (level_of script.roster (Manager row.reader)) own level le) in
+    filter_twice (λ (row : PlanRow). is_low script.roster own (Manager row.reader))
+    (λ (row : PlanRow). is_low script.roster level (Manager row.reader)) script.rows
+    (λ row. within_more (level_of script.roster (Manager row.reader)) own level le) in
     let events =
-        filter_twice (λ (e : Event). is_low script.roster own (place_of e))
-        (λ (e : Event). is_low script.roster level (place_of e)) script.events
-        (λ e. within_more (level_of script.roster (place_of e)) own level le) in
+    filter_twice (λ (e : Event). is_low script.roster own (place_of e))
+    (λ (e : Event). is_low script.roster level (place_of e)) script.events
+    (λ e. within_more (level_of script.roster (place_of e)) own level le) in
     ap₂ (λ (r : List PlanRow) (es : List Event). record { roster = script.roster; rows = r; events = es })
     rows events

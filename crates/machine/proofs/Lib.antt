@@ -7,6 +7,7 @@ pub mod Giving
 pub mod Order
 pub mod InOrder
 pub mod OneMessage
+pub mod Named
 pub mod OneAtATime
 pub mod Levels
 pub mod Directories
@@ -25,5 +26,6 @@ pub mod AskSends
 pub mod ManagerReplies
 pub mod FramesApart
 pub mod Small
+pub mod RosterKeys
 pub mod FirstFalse
 pub mod Rows

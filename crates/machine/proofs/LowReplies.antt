@@ -71,7 +71,7 @@ sight_low : (roster : RosterView) (level : Level) (p : ℕ) (cs : List CallRow) 
     → sight roster p (low_calls roster level cs) ≡ sight roster p cs
 sight_low roster level p cs low =
     let names : (sight roster p (low_calls roster level cs)).below ≡ (sight roster p cs).below =
-        λ i q. names_low roster level p cs low q i in
+    λ i q. names_low roster level p cs low q i in
     ap₂ seen (files_low roster level p cs low) names
 
 asked_low : (roster : RosterView) (level : Level) (cs : List CallRow) (c : CallRow)

@@ -53,7 +53,7 @@ no_ask : (roster : RosterView) (from : ℕ) (call : Call) (p : Partition) (r : P
 no_ask roster from call p r None x is = cc
 no_ask roster from call p r (Some q) x is =
     let same : x ≡ record { from = Host from; to = Manager q; message = call_text call } =
-        cc in ap (λ (y : Sending). sent_on roster (Some y) (Manager p) r) same
+    cc in ap (λ (y : Sending). sent_on roster (Some y) (Manager p) r) same
 
 -- a send is no manager unit's
 no_send : (roster : RosterView) (e : Event) (p : Partition) (r : Party) (o : Option Sending)
@@ -61,7 +61,7 @@ no_send : (roster : RosterView) (e : Event) (p : Partition) (r : Party) (o : Opt
 no_send roster e p r None is = refl
 no_send roster (Send from to message) p r (Some x) is =
     let same : x ≡ record { from = Host from; to = to; message = message } =
-        cc in ap (λ (y : Sending). sent_on roster (Some y) (Manager p) r) same
+    cc in ap (λ (y : Sending). sent_on roster (Some y) (Manager p) r) same
 no_send roster (Ask from call) p r (Some x) is =
     no_ask roster from call p r (partition_of roster (Host from)) x is
 no_send roster (Arrive stream message piece at) p r (Some x) is = cc

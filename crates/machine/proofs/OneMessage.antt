@@ -36,7 +36,7 @@ abbrev pub GivesAlone : Setup → State → Event → Party → Party → ℕ �
 GivesAlone m x e s u j = (s' : Party) (j' : ℕ) → gives m x e s' u j' ≡ true → (s' ≡ s) × (j' ≡ j)
 
 -- what is between s and u comes from s
-from_of : (stream : Stream) (at s u : Party) → is_between stream at s u ≡ true → stream.from ≡ s
+pub from_of : (stream : Stream) (at s u : Party) → is_between stream at s u ≡ true → stream.from ≡ s
 from_of stream at s u h =
     same_party stream.from s
     (both (is_same_party stream.from s) (is_same_party stream.to u) (both (is_same_party stream.from s
@@ -173,7 +173,6 @@ is_forged m x bytes s u j i h =
       hands =
           rw (own_party u) ((bytes_eq-Decides bytes (piece_frame m s u j h.body i)).1 h.same);
     }
-
 
 filter_cases : (P : ℕ → Bool) (xs : List ℕ) → (filter P xs ≡ []) ⊎ ((k : ℕ) × (P k ≡ true))
 filter_cases P [] = inl refl

@@ -104,9 +104,9 @@ pub parts : (m : Setup) (x : State) (e : Event) (s r : Party) (j : ℕ) → give
 unfolding gives
 parts m x e s r j h =
     let t =
-        four (has_all (slice_get (x.sent s r) j) (handed m x e s r ++ x.arrived s r) j)
-        (has_all (slice_get (x.sent s r) j) (x.arrived s r) j)
-        (has_later (x.arrived s r) (j + m.ahead)) (list_any (nat_lt j) (x.given s r)) h in (t.0, t.1, t.3)
+    four (has_all (slice_get (x.sent s r) j) (handed m x e s r ++ x.arrived s r) j)
+    (has_all (slice_get (x.sent s r) j) (x.arrived s r) j)
+    (has_later (x.arrived s r) (j + m.ahead)) (list_any (nat_lt j) (x.given s r)) h in (t.0, t.1, t.3)
 
 older : (x : State) (s r : Party) (j : ℕ) (js : List ℕ)
     → has_all (slice_get (x.sent s r) j) (x.arrived s r) j ≡ false → list_any (nat_lt j) js ≡ false
@@ -115,8 +115,8 @@ older : (x : State) (s r : Party) (j : ℕ) (js : List ℕ)
 older x s r j [] not_yet none all = tt
 older x s r j (k ∷ js) not_yet none all =
     let differ : k ≢ j =
-        λ same. (let h : has_all (slice_get (x.sent s r) j) (x.arrived s r) j ≡ true =
-        subst (λ n. has_all (slice_get (x.sent s r) n) (x.arrived s r) n ≡ true) same all.0 in cc) in
+    λ same. (let h : has_all (slice_get (x.sent s r) j) (x.arrived s r) j ≡ true =
+    subst (λ n. has_all (slice_get (x.sent s r) n) (x.arrived s r) n ≡ true) same all.0 in cc) in
     (grind (arith, nat_tests), older x s r j js not_yet (grind (arith, nat_tests)) all.1)
 
 pub record Given (x : State) (s r : Party) : Type 0 where

@@ -1,6 +1,8 @@
 -- The parties of a roster are all different.
-use Rattle.std.proofs.Common.{◌≡◌, ℕ, zero, suc, ◌+◌, ◌<◌, List, [], ◌∷◌, ◌++◌, length, map, Bool, true, false, Some, refl, sym, ap, ◌∙◌, inl, inr, append-nil, arith}
-use Rattle.std.specs.Prelude.{slice_get, ◌==◌, if◌then◌else◌}
+use Rattle.std.proofs.Common.{◌≡◌, ℕ, zero, suc, ◌+◌, ◌<◌, ◌≤◌, List, [], ◌∷◌, ◌++◌, length, map, Bool, true, false, Option, Some, None, refl, sym, ap, ◌∙◌, inl, inr, append-nil, arith}
+use Rattle.std.specs.Prelude.{slice_get, ◌==◌, if◌then◌else◌, find, is_some, nat_lt}
+use Rattle.std.specs.Option.{option_map}
+use Rattle.std.proofs.lemmas.Bool.{or_left, or_right}
 use Rattle.std.specs.List.{list_any, flat_map, range_with_len}
 use Rattle.std.proofs.lemmas.Bool.Decides.{nat_tests}
 use Rattle.std.proofs.lemmas.List.Folds.{list_any-append}
@@ -8,7 +10,9 @@ use Rattle.levels.specs.declared.level.Party.{Party}
 use Rattle.levels.specs.declared.level.Party.TheVariants.{Host, Manager}
 use Rattle.levels.specs.declared.rows.HostRow.{HostRow}
 use Rattle.levels.specs.Kept.{AreApart, IsRoster}
-use Rattle.levels.specs.Rosters.{RosterView, is_same_party}
+use Rattle.levels.specs.Rosters.{RosterView, host_row, partition_of, is_same_party}
+use Rattle.levels.specs.declared.level.Partition.{Partition}
+use Rattle.events.specs.Scripts.{is_known}
 use Rattle.machine.specs.Machine.{parties}
 use Rattle.machine.proofs.Basics.{bool_cases, same_party}
 
@@ -97,3 +101,50 @@ all_apart (row ∷ rows) n apart = (
 
 pub parties_apart : (roster : RosterView) → IsRoster roster → Apart (parties roster)
 parties_apart roster is = all_apart roster.hosts (length roster.levels) is.addresses_apart
+
+-- ---- a party of the roster is in the list
+
+is_some-option_map : (o : Option HostRow) → is_some (option_map (λ (row : HostRow). row.partition) o) ≡ is_some o
+is_some-option_map None = refl
+is_some-option_map (Some row) = refl
+
+host_in : (a : ℕ) (rows : List HostRow) (o : Option HostRow) → find (λ (row : HostRow). row.address == a) rows ≡ o
+    → is_some o ≡ true → is_in (Host a) (map host rows) ≡ true
+host_in a [] o is some = let none : is_some o ≡ false = ap is_some (sym is) in cc
+host_in a (row ∷ rows) o is some = elim (bool_cases (row.address == a)) [
+  | inl here ↦ rw here refl
+  | inr other ↦ rw other (host_in a rows o (rw other at is) some)
+]
+
+manager_in : (p a n : ℕ) → a ≤ p → p < a + n → is_in (manager p) (map manager (range_with_len a n)) ≡ true
+manager_in p a zero least most = absurd (omega (arith, least, most))
+manager_in p a (suc n) least most = elim (bool_cases (a == p)) [
+  | inl here ↦ rw here refl
+  | inr other ↦
+      (let more : a + 1 ≤ p = grind (arith, nat_tests) in
+      rw other (manager_in p (a + 1) n more (omega (arith, most))))
+]
+
+known_in : (roster : RosterView) (s : Party) (o : Option Partition) → partition_of roster s ≡ o → is_some o ≡ true
+    → is_in s (parties roster) ≡ true
+known_in roster (Host a) o is some =
+    let there : is_some (host_row roster a) ≡ true =
+    sym (is_some-option_map (host_row roster a)) ∙ ap is_some is ∙ some in
+    list_any-append (λ (t : Party). is_same_party t (Host a)) (map host roster.hosts)
+    (map manager (range_with_len 0 (length roster.levels)))
+    ∙ or_left (is_in (Host a) (map host roster.hosts))
+    (is_in (Host a) (map manager (range_with_len 0 (length roster.levels))))
+    (host_in a roster.hosts (host_row roster a) refl there)
+known_in roster (Manager q) o is some = elim (bool_cases (nat_lt q.0 (length roster.levels))) [
+  | inl inside ↦
+      list_any-append (λ (t : Party). is_same_party t (Manager q)) (map host roster.hosts)
+      (map manager (range_with_len 0 (length roster.levels)))
+      ∙ or_right (is_in (Manager q) (map host roster.hosts))
+      (is_in (Manager q) (map manager (range_with_len 0 (length roster.levels))))
+      (manager_in q.0 0 (length roster.levels) (omega arith) (grind (arith, nat_tests)))
+  | inr past ↦ (let none = rw past at is in let bad : is_some o ≡ false = ap is_some (sym none) in cc)
+]
+
+-- a party that a roster has is one of its parties
+pub known_there : (roster : RosterView) (s : Party) → is_known roster s ≡ true → is_in s (parties roster) ≡ true
+known_there roster s known = known_in roster s (partition_of roster s) refl known

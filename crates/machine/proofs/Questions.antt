@@ -65,5 +65,5 @@ pub asked_current : (roster : RosterView) (before : List CallRow) (c : CallRow) 
 asked_current roster before c b h =
     let t = asked_stands (sight roster c.level before) (call_of c.message) b h in
     let same =
-        (seen_below (is_below roster b.level c.level) (files b.level before).names t.directory t.seen).1 in
+    (seen_below (is_below roster b.level c.level) (files b.level before).names t.directory t.seen).1 in
     ap (λ d. block_version (versions_of b.name d) b.block) same ∙ t.current

@@ -166,16 +166,16 @@ pub reads_down : (m : Setup) (before : List CallRow) (c : CallRow) (version : â„
 unfolding reply
 reads_down m before c version content h =
     let t =
-        opened_is (sight m.roster c.level before)
-        (intact_content (next_action m before c.level) before (question_of m.roster before c))
-        (call_of c.message) version content h in
+    opened_is (sight m.roster c.level before)
+    (intact_content (next_action m before c.level) before (question_of m.roster before c))
+    (call_of c.message) version content h in
     let w =
-        intact_is (next_action m before c.level) before (question_of m.roster before c) t.question content
-        t.asks t.holds in
+    intact_is (next_action m before c.level) before (question_of m.roster before c) t.question content
+    t.asks t.holds in
     let current = asked_current m.roster before c t.question t.asks in
     let as_written =
-        written_as t.question.level before t.question.name t.question.block t.question.version
-        (versions_of t.question.name (files t.question.level before).names) w.0 refl current w.1 in
+    written_as t.question.level before t.question.name t.question.block t.question.version
+    (versions_of t.question.name (files t.question.level before).names) w.0 refl current w.1 in
     record {
       question = t.question;
       asks = t.asks;

@@ -1,6 +1,10 @@
 -- Worked rows: what small scripts over one roster tell, put on the wire and have as their text.
-use Rattle.std.proofs.Common.{◌≡◌, ℕ, List, [], ◌∷◌, ◌++◌, Option, Some, None, refl, replicate, take, length, reverse}
-use Rattle.std.specs.Prelude.{codes}
+use Rattle.std.proofs.Common.{◌≡◌, ℕ, List, [], ◌∷◌, ◌++◌, Option, Some, None, refl, replicate, take, length, reverse, arith}
+use Rattle.std.specs.Prelude.{codes, map, ◌+◌, ◌-◌, ◌/◌, ◌%◌}
+use Rattle.std.specs.List.{range_with_len}
+use Rattle.file_calls.specs.ByteLaws.{are_bytes}
+use Rattle.file_calls.specs.declared.call.Call.{Call}
+use Rattle.file_calls.specs.declared.call.Reply.TheVariants.{Full}
 use Rattle.std.specs.Fmt.{digits}
 use Rattle.hex.specs.Hex.{encode_with}
 use Rattle.levels.specs.declared.level.Partition.{Partition}
@@ -25,11 +29,12 @@ use Rattle.guarantor.specs.Records.{record_nonce, record_plain, record_of}
 use Rattle.frame.specs.Frames.{frame_of, plain_of, nonce_of, header}
 use Rattle.machine.specs.Events.{Event, Send, Ask, Arrive, Carry, Forge, Tamper, ScriptView}
 use Rattle.machine.specs.Setup.{Setup, sealer, setup_of}
+use Rattle.machine.specs.FalseBytes.{IsFalse}
 use Rattle.machine.specs.Low.{low}
-use Rattle.machine.specs.Files.{writing}
+use Rattle.machine.specs.Files.{CallRow, writing}
 use Rattle.machine.specs.Replies.{question_by, reply_by}
 use Rattle.machine.specs.Plan.{next_action, reply}
-use Rattle.machine.specs.Machine.{gives, state, told}
+use Rattle.machine.specs.Machine.{gives, state, state_at, told}
 use Rattle.machine.specs.Wire.{frames}
 use Rattle.machine.specs.Text.{hosts_in_order, text, text_below, wire_text}
 
@@ -259,10 +264,41 @@ row_12_elsewhere : told (script_of [] (Send 1 (Host 2) hi ∷ Forge (Host 5) fra
 unfolding gives piece_count piece_bytes padded frame_of plain_of nonce_of header sealer clear_text clear_check blocks first_blocks
 row_12_elsewhere = refl
 
+row_12_not_here : told (script_of [] (Send 1 (Host 2) hi ∷ Forge (Host 5) frame ∷ [])) (Host 2) ≡ []
+unfolding gives piece_count piece_bytes padded frame_of plain_of nonce_of header sealer clear_text clear_check blocks first_blocks
+row_12_not_here = refl
+
 row_11 : told (script_of []
     (Send 1 (Host 2) hi ∷ Tamper (stream 1 2) 0 0 (Host 2) ((32, 1) ∷ []) ∷ [])) (Host 2) ≡ []
 unfolding gives piece_count
 row_11 = refl
+
+-- the same change at 32 and at 40 cancels in the check block
+abbrev changed : List ℕ
+changed = 1 ∷ 2 ∷ 0 ∷ 0 ∷ 0 ∷ 0 ∷ 0 ∷ 0
+    ∷ 2 ∷ 0 ∷ 0 ∷ 0 ∷ 0 ∷ 0 ∷ 0 ∷ 0
+    ∷ 105 ∷ 105 ∷ 0 ∷ 0 ∷ 0 ∷ 0 ∷ 0 ∷ 0
+    ∷ 1 ∷ replicate 79 0
+
+row_11_false : IsFalse (setup_of (script_of [] [])) (state_at (script_of [] (Send 1 (Host 2) hi ∷ [])) 1)
+    (Tamper (stream 1 2) 0 0 (Host 2) ((32, 1) ∷ (40, 1) ∷ []))
+unfolding gives piece_count piece_bytes padded frame_of plain_of nonce_of header sealer clear_text clear_check blocks first_blocks
+row_11_false = record {
+  bytes = frame;
+  sent = record { body = hi; sent = refl; piece = omega arith; same = refl };
+  opens = record {
+    header = refl;
+    opens = record {
+      nonce = 1 ∷ 2 ∷ replicate 6 0;
+      plain = changed;
+      opens = record {
+        block = record { len = refl; bytes = are_bytes (1 ∷ 2 ∷ replicate 6 0) refl };
+        blocks = record { some = omega arith; whole = refl; bytes = are_bytes changed refl };
+        same = refl;
+      };
+    };
+  };
+}
 
 -- ---- files
 
@@ -386,6 +422,79 @@ blocks_2 : told (script_of [] (
     ≡ Sent U 0 ∷ From U (4 ∷ []) ∷ Sent U 1 ∷ From U (3 ∷ []) ∷ []
 unfolding gives piece_count call_text call_of reply_text question_by reply_by writing next_action reply
 blocks_2 = refl
+
+-- a name of four bytes: `n`, and a number in three digits
+abbrev numbered : ℕ → List ℕ
+numbered k = 110 ∷ (48 + k / 100) ∷ (48 + k / 10 % 10) ∷ (48 + k % 10) ∷ []
+
+abbrev call_at : ℕ → Call → CallRow
+call_at level call = record { caller = Host 1; level = level; message = call_text call }
+
+abbrev put_numbered : ℕ → CallRow
+put_numbered k = call_at 0 (Put (numbered k) (97 ∷ []))
+
+-- 128 names, the newest first
+abbrev all_names : List CallRow
+all_names = map (λ k. put_numbered (127 - k)) (range_with_len 0 128)
+
+row_15_full : reply (setup_of (script_of [] [])) all_names (put_numbered 128) ≡ Full
+unfolding call_text call_of question_by reply_by writing next_action reply
+row_15_full = refl
+
+row_15_again : reply_text (reply (setup_of (script_of [] [])) all_names (put_numbered 0)) ≡ 1 ∷ version 129
+unfolding call_text call_of reply_text question_by reply_by writing next_action reply
+row_15_again = refl
+
+row_15_other_level :
+    reply_text (reply (setup_of (script_of [] [])) all_names (call_at 1 (Put (numbered 0) (97 ∷ []))))
+    ≡ 1 ∷ version 1
+unfolding call_text call_of reply_text question_by reply_by writing next_action reply
+row_15_other_level = refl
+
+-- a file of 64 blocks, the newest first
+abbrev all_blocks : List CallRow
+all_blocks = replicate 63 (call_at 0 (Append big (98 ∷ []))) ++ call_at 0 (Put big (97 ∷ [])) ∷ []
+
+blocks_2_full : reply (setup_of (script_of [] [])) all_blocks (call_at 0 (Append big (98 ∷ []))) ≡ Full
+unfolding call_text call_of question_by reply_by writing next_action reply
+blocks_2_full = refl
+
+-- ---- a day at three levels
+
+abbrev roster_of_three : RosterView
+roster_of_three = record {
+  sealing = Clear;
+  levels = record { name = codes "U"; level = record { rank = 0; cats = 0 } }
+      ∷ record { name = codes "C"; level = record { rank = 1; cats = 1 } }
+      ∷ record { name = codes "S"; level = record { rank = 2; cats = 3 } } ∷ [];
+  keys = [];
+  guard = None;
+  hosts = record { address = 1; partition = partition 0 }
+      ∷ record { address = 2; partition = partition 0 }
+      ∷ record { address = 3; partition = partition 1 }
+      ∷ record { address = 4; partition = partition 1 }
+      ∷ record { address = 5; partition = partition 2 }
+      ∷ record { address = 6; partition = partition 2 } ∷ [];
+}
+
+abbrev day : List Event
+day = Ask 1 (Put (codes "rota") (codes "mon")) ∷ asks 1 (Manager (partition 0)) 0
+    ∷ answers (Manager (partition 0)) 1 0
+    ∷ Send 3 (Host 4) (codes "hello") ∷ Carry (stream 3 4) 0 (Host 4) ∷ Carry (stream 3 4) 0 (Host 4)
+    ∷ Send 3 (Host 4) (codes "lost") ∷ Send 3 (Host 4) (codes "bye") ∷ Carry (stream 3 4) 2 (Host 4)
+    ∷ Ask 5 (Put (codes "plan") (codes "v1")) ∷ asks 5 (Manager (partition 2)) 0
+    ∷ Ask 6 (Get 0 (codes "rota")) ∷ asks 6 (Manager (partition 2)) 0
+    ∷ answers (Manager (partition 2)) 6 0
+    ∷ Ask 3 (Get 2 (codes "plan")) ∷ asks 3 (Manager (partition 1)) 0
+    ∷ answers (Manager (partition 1)) 3 0 ∷ []
+
+row_23 : text (record { roster = roster_of_three; rows = []; events = day })
+    ≡ codes "host 1 U\nsent U 0\nfrom U 010000000000000001\nhost 2 U\n"
+    ++ codes "host 3 C\nsent 4 0\nsent 4 1\nsent 4 2\nsent C 0\nfrom C 03\n"
+    ++ codes "host 4 C\nfrom 3 68656c6c6f\nfrom 3 627965\nhost 5 S\nsent S 0\n"
+    ++ codes "host 6 S\nsent S 0\nfrom S 02000000000000000100036d6f6e\n"
+unfolding gives piece_count hosts_in_order digits encode_with call_text call_of reply_text question_by reply_by writing next_action reply
+row_23 = refl
 
 -- ---- the record of a file
 

@@ -1,7 +1,7 @@
 -- What a script holds. (Stand-ins for their own crate.)
 use Rattle.std.specs.Prelude.{◌≡◌, ℕ, ◌≤◌, List, length, true}
 use Rattle.std.specs.List.{AllByRecursion}
-use Rattle.levels.specs.Kept.{IsRoster}
+use Rattle.levels.specs.Kept.{IsRoster, IsComplete}
 use Rattle.seal_core.specs.Blocks.{AreBytes}
 use Rattle.file_calls.specs.Spelling.{is_call}
 use Rattle.levels.specs.declared.level.Party.{Party}
@@ -37,5 +37,6 @@ pub record IsEvent (roster : RosterView) (event : Event) : Type 0 where
 
 pub record IsScript (script : ScriptView) : Type 0 where
   pub roster : IsRoster script.roster
+  pub complete : IsComplete script.roster
   pub room : length script.events ≤ 100000
   pub events : AllByRecursion (IsEvent script.roster) script.events

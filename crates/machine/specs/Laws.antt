@@ -1,5 +1,5 @@
 -- What the laws of the machine say.
-use Rattle.std.specs.Prelude.{◌≡◌, ◌⊎◌, ℕ, ◌<◌, ◌≤◌, ◌^◌, List, [], ◌∷◌, ◌++◌, length, map, true, false, Option, Some, None, if◌then◌else◌, slice_get}
+use Rattle.std.specs.Prelude.{◌≡◌, ◌⊎◌, ℕ, ◌<◌, ◌≤◌, ◌^◌, List, [], ◌∷◌, ◌++◌, length, map, Bool, true, false, Option, Some, None, if◌then◌else◌, slice_get}
 use Rattle.std.specs.List.Sorted.{IsStrictlyIncreasing}
 use Rattle.levels.specs.declared.level.Party.{Party}
 use Rattle.levels.specs.Rosters.{RosterView, is_same_party, is_partner}
@@ -15,7 +15,7 @@ use Rattle.machine.specs.Setup.{Setup, setup_of}
 use Rattle.machine.specs.Files.{CallRow, versions_of, written, files}
 use Rattle.machine.specs.Replies.{Question, is_below, block_version}
 use Rattle.machine.specs.Plan.{question_of, reply}
-use Rattle.machine.specs.Machine.{State, hands, is_answered_on, end_of, told, state_at}
+use Rattle.machine.specs.Machine.{State, Message, hands, is_answered_on, end_of, told, state_at}
 use Rattle.machine.specs.FalseBytes.{IsSentFrame}
 
 -- an event hands over piece i of message j from s to u, which was sent before
@@ -73,6 +73,10 @@ pub record ReadsDown
 -- a list is empty, or has one element
 abbrev pub IsOneAtMost : {A : Type 0} → List A → Type 0
 IsOneAtMost {A = A} xs = (xs ≡ []) ⊎ ((x : A) × (xs ≡ x ∷ []))
+
+-- the message, if it is given
+abbrev pub given_if : Bool → Message → List Message
+given_if given message = if given then message ∷ [] else []
 
 -- the bytes of a forged frame are the frame of pieces of one message to that unit at most
 abbrev pub OneFrame : Setup → State → Event → Type 0

@@ -1,25 +1,28 @@
-ghost use Rattle.std.specs.Prelude.{◌≡◌, ◌↔◌, ℕ, ◌≤◌, ◌++◌, ◌&&◌, not, length, List, true, false, Some, slice_get};
+ghost use Rattle.std.specs.Prelude.{◌≡◌, ◌↔◌, ℕ, ◌<◌, ◌≤◌, ◌++◌, ◌&&◌, not, length, List, true, false, Some, slice_get};
 ghost use Rattle.levels.specs.declared.level.Level.{Level};
 ghost use Rattle.levels.specs.declared.level.Partition.{Partition};
 ghost use Rattle.levels.specs.declared.level.Party.{Party};
 ghost use Rattle.levels.specs.declared.level.Party.TheVariants.{Manager};
 ghost use Rattle.levels.specs.Kept.{IsRoster};
+ghost use Rattle.levels.specs.Keys.{keys_at, guard_of};
 ghost use Rattle.levels.specs.Order.{is_at_most};
 ghost use Rattle.levels.specs.Rosters.{is_same_party, level_of};
 ghost use Rattle.seal_core.specs.Sealing.{IsSealing};
 ghost use Rattle.file_calls.specs.declared.call.Call.{Call};
 ghost use Rattle.file_calls.specs.Spelling.{is_reply};
-ghost use Rattle.machine.specs.Events.{Event, Ask, Send, Forge, ScriptView, IsScript};
+ghost use Rattle.events.specs.declared.event.Stream.{Stream};
+ghost use Rattle.events.specs.Scripts.{is_known};
+ghost use Rattle.machine.specs.Events.{Event, Send, Ask, Arrive, Carry, Forge, ScriptView, IsScript};
 ghost use Rattle.machine.specs.Setup.{Setup, setup_of};
 ghost use Rattle.machine.specs.Low.{place_of, is_low, low};
 ghost use Rattle.machine.specs.Sends.{Sending, sending_of};
 ghost use Rattle.machine.specs.Given.{has_piece, has_all, has_later};
 ghost use Rattle.machine.specs.Files.{CallRow};
 ghost use Rattle.machine.specs.Plan.{reply};
-ghost use Rattle.machine.specs.Machine.{State, handed, gives, given_to, after, state, told, state_at};
+ghost use Rattle.machine.specs.Machine.{State, handed, gives, message_of, given_to, after, state, told, state_at};
 ghost use Rattle.machine.specs.FalseBytes.{IsSentFrame, IsFirstFalse};
 ghost use Rattle.machine.specs.Text.{text_below};
-ghost use Rattle.machine.specs.Laws.{HandsOver, HasArrived, AreInOrder, content_in, ReadsDown, OneFrame, IsOneAtMost, FramesApart, replies_to, StaysAt, AreSmall};
+ghost use Rattle.machine.specs.Laws.{HandsOver, HasArrived, AreInOrder, content_in, ReadsDown, given_if, OneFrame, IsOneAtMost, FramesApart, replies_to, StaysAt, AreSmall};
 
 use frame::each_piece_has_a_frame_of_its_own;
 
@@ -69,6 +72,21 @@ pub fn one_message_at_most()
     each_piece_has_a_frame_of_its_own();
 }
 
+/// An event that names a piece or a message of a party of the roster gives the message that it
+/// names, or none.
+pub fn only_what_is_named_is_given()
+    ensures arrive { (m : Setup) (x : State) (stream : Stream) (j i : ℕ) (at : Party) →
+        IsRoster m.roster → is_known m.roster stream.from ≡ true →
+        (let e = Arrive stream j i at in
+        let message = message_of stream.from (x.sent stream.from at) j in
+        given_to m x e at ≡ given_if (gives m x e stream.from at j) message) }
+    ensures carry { (m : Setup) (x : State) (stream : Stream) (j : ℕ) (at : Party) →
+        IsRoster m.roster → is_known m.roster stream.from ≡ true →
+        (let e = Carry stream j at in
+        let message = message_of stream.from (x.sent stream.from at) j in
+        given_to m x e at ≡ given_if (gives m x e stream.from at j) message) }
+{}
+
 // ---- events
 
 /// An event changes nothing at a party but the one where it happens.
@@ -98,6 +116,15 @@ pub fn one_event_is_the_first_false_one()
 {}
 
 // ---- frames
+
+/// The roster of a script has the keys of each of its levels, and the guarantor's.
+pub fn a_script_has_all_keys()
+    ensures levels { (script : ScriptView) (p : Partition) → IsScript script →
+        p.0 < length script.roster.levels →
+        keys_at script.roster p ≡ Some ((setup_of script).keys p.0) }
+    ensures guard { (script : ScriptView) → IsScript script →
+        guard_of script.roster ≡ Some (setup_of script).guard }
+{}
 
 /// A frame stays the frame of its piece.
 pub fn a_frame_stays()
