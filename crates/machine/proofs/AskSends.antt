@@ -1,33 +1,21 @@
 -- An Ask is the Send of its call's spelling.
-use Rattle.std.proofs.Common.{◌≡◌, ℕ, zero, suc, ◌+◌, ◌<◌, List, [], ◌∷◌, ◌++◌, ◌&&◌, length, map, Bool, true, false, Option, Some, None, refl, ap, ap₂, subst, ◌∙◌, ◌⊎◌, inl, inr, append-nil, arith}
-use Rattle.std.specs.Prelude.{slice_get, filter, not, nat_lt}
+use Rattle.std.proofs.Common.{◌≡◌, ℕ, List, ◌++◌, length, map, Option, Some, None, refl, ap₂, subst, ◌∙◌}
+use Rattle.std.specs.Prelude.{filter}
 use Rattle.std.specs.Option.{option_map}
-use Rattle.std.specs.List.{flat_map, list_any, list_all, range_with_len}
-use Rattle.std.proofs.lemmas.Bool.{or_right}
-use Rattle.std.proofs.lemmas.Bool.Decides.{nat_tests}
-use Rattle.std.proofs.lemmas.Slice.Eq.{bytes_eq-Decides}
+use Rattle.std.specs.List.{flat_map, range_with_len}
 use Rattle.levels.specs.declared.level.Partition.{Partition}
 use Rattle.levels.specs.declared.level.Party.{Party}
 use Rattle.levels.specs.declared.level.Party.TheVariants.{Host, Manager}
-use Rattle.levels.specs.Rosters.{RosterView, is_same_party, partition_of}
-use Rattle.frame.specs.Pieces.{pieces, piece_count}
+use Rattle.levels.specs.Rosters.{partition_of}
+use Rattle.frame.specs.Pieces.{pieces}
 use Rattle.file_calls.specs.declared.call.Call.{Call}
 use Rattle.file_calls.specs.Spelling.{call_text, reply_text}
 use Rattle.machine.specs.declared.line.OutLine.TheVariants.{From}
-use Rattle.machine.specs.Events.{Event, Send, Ask, Arrive, Carry, Forge, Tamper}
+use Rattle.machine.specs.Events.{Send, Ask}
 use Rattle.machine.specs.Setup.{Setup}
-use Rattle.machine.specs.Low.{place_of}
 use Rattle.machine.specs.Sends.{Sending, sending_of, sent_on, answers}
-use Rattle.machine.specs.Given.{has_piece, has_all, has_later}
-use Rattle.machine.specs.Files.{CallRow}
 use Rattle.machine.specs.Plan.{reply}
-use Rattle.machine.specs.Machine.{State, piece_frame, handed, gives, numbers_given, Message, message_of, given_from, given_to, calls_to, calls_by, is_answered_on, replies, sent_by, after, state, parties}
-use Rattle.machine.specs.FalseBytes.{IsSentFrame}
-use Rattle.machine.specs.Laws.{HandsOver, OneFrame, FramesApart, replies_to}
-use Rattle.machine.proofs.Basics.{bool_cases, own_party, found_still}
-use Rattle.machine.proofs.PartiesApart.{is_in, Apart}
-use Rattle.machine.proofs.Order.{AllWhole, given_is}
-use Rattle.machine.proofs.OneMessage.{gives_alone, given_one, one_frame}
+use Rattle.machine.specs.Machine.{State, handed, gives, numbers_given, message_of, calls_to, is_answered_on, after, parties}
 
 ask_sends : (m : Setup) (from : ℕ) (call : Call) (o : Option Partition) (x : Sending)
     → option_map (λ p. record { from = Host from; to = Manager p; message = call_text call }) o ≡ Some x

@@ -2,7 +2,7 @@
 use Rattle.std.proofs.Common.{◌≡◌, ℕ, ◌+◌, List, [], ◌∷◌, ◌++◌, ◌&&◌, length, Bool, true, false, Option, Some, None, refl, ap, ap₂, ◌∙◌, inl, inr, append-nil, arith}
 use Rattle.std.specs.Prelude.{filter, map}
 use Rattle.std.specs.Option.{option_map}
-use Rattle.std.specs.List.{flat_map, range_with_len}
+use Rattle.std.specs.List.{range_with_len}
 use Rattle.std.specs.Str.{bytes_eq}
 use Rattle.std.proofs.lemmas.Bool.Decides.{nat_tests}
 use Rattle.levels.specs.declared.level.Partition.{Partition}
@@ -20,7 +20,7 @@ use Rattle.machine.specs.Low.{place_of}
 use Rattle.machine.specs.Sends.{Sending, sending_of, sent_on, answers}
 use Rattle.machine.specs.Files.{CallRow}
 use Rattle.machine.specs.Plan.{reply}
-use Rattle.machine.specs.Machine.{State, Message, parties, piece_frame, hands, handed_of, gives, numbers_given, given_from, given_to, calls_to, is_answered_on, sent_by, lines_by, after}
+use Rattle.machine.specs.Machine.{State, Message, piece_frame, hands, handed_of, gives, numbers_given, given_to, calls_to, is_answered_on, sent_by, lines_by, after}
 use Rattle.machine.specs.Laws.{StaysAt}
 use Rattle.machine.proofs.Basics.{bool_cases, none_passes}
 use Rattle.machine.proofs.Giving.{gives_what_it_hands}

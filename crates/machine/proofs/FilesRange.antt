@@ -1,14 +1,13 @@
 -- The files of every level keep their limits.
-use Rattle.std.proofs.Common.{◌≡◌, ℕ, ◌+◌, ◌<◌, ◌≤◌, List, [], ◌∷◌, ◌++◌, ◌||◌, length, Bool, true, false, Option, Some, None, refl, sym, ap, ◌∙◌, inl, inr, arith, length-append}
-use Rattle.std.specs.Prelude.{nat_lt, is_some, ◌-◌, ◌^◌}
+use Rattle.std.proofs.Common.{◌≡◌, ℕ, ◌+◌, ◌<◌, ◌≤◌, List, [], ◌∷◌, ◌++◌, ◌||◌, length, Bool, true, false, Some, arith, length-append}
+use Rattle.std.specs.Prelude.{nat_lt, is_some, ◌^◌}
 use Rattle.std.specs.List.{AllByRecursion}
-use Rattle.std.specs.BTreeMap.{is_at, insert_entry}
+use Rattle.std.specs.BTreeMap.{is_at}
 use Rattle.std.proofs.lemmas.Bool.Decides.{nat_tests}
 use Rattle.file_calls.specs.Names.{name_cmp, is_name, is_content}
-use Rattle.machine.specs.Files.{CallRow, Directory, versions_of, Write, Files, Writing, write_of, with_writing, files}
-use Rattle.machine.proofs.Basics.{bool_cases}
+use Rattle.machine.specs.Files.{CallRow, versions_of, Write, Files, Writing, write_of, with_writing, files}
 use Rattle.machine.proofs.Directories.{Entry, AreRising, count_with, all_inserted, all_removed, rising_inserted, rising_removed, count_inserted, count_removed}
-use Rattle.machine.proofs.Filing.{Draws, Stays, stays_through}
+use Rattle.machine.proofs.Filing.{Draws, stays_through}
 
 -- a file has a name and 1 to 64 blocks
 pub record IsFile (entry : Entry) : Type 0 where

@@ -1,5 +1,5 @@
 -- Of two events one at most is the first at which false bytes open.
-use Rattle.std.proofs.Common.{◌≡◌, ℕ, zero, suc, ◌+◌, ◌<◌, ap, ◌⊎◌, inl, inr, arith}
+use Rattle.std.proofs.Common.{◌≡◌, ℕ, ◌<◌, ◌⊎◌, inl, inr, arith}
 use Rattle.machine.specs.Events.{ScriptView}
 use Rattle.machine.specs.FalseBytes.{IsFirstFalse}
 

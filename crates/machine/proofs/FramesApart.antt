@@ -1,6 +1,6 @@
 -- Pieces of different messages to one unit have different frames, by the laws of the sealing.
-use Rattle.std.proofs.Common.{◌≡◌, ℕ, zero, suc, ◌+◌, ◌-◌, ◌*◌, ◌/◌, ◌%◌, ◌^◌, ◌<◌, ◌≤◌, List, [], ◌∷◌, ◌++◌, ◌&&◌, length, take, drop, reverse, Bool, true, false, Option, Some, None, refl, sym, ap, ap₂, subst, ◌∙◌, inl, inr, arith, length-append, drop_at}
-use Rattle.std.specs.Prelude.{slice_get, slice_index, replicate, min, not, find, ◌==◌, nat_lt}
+use Rattle.std.proofs.Common.{◌≡◌, ℕ, ◌-◌, ◌*◌, ◌<◌, ◌≤◌, List, [], ◌∷◌, length, take, drop, true, Option, Some, None, refl, sym, ap, subst, ◌∙◌, inl, inr, arith, length-append, drop_at}
+use Rattle.std.specs.Prelude.{slice_get, replicate, min, not, find, ◌==◌, nat_lt}
 use Rattle.std.specs.Option.{option_map}
 use Rattle.std.specs.List.{AllByRecursion}
 use Rattle.std.proofs.lemmas.Bool.Decides.{nat_tests}
@@ -21,8 +21,8 @@ use Rattle.seal_core.specs.ClearLaws.{clear_laws}
 use Rattle.des_cbc.specs.ChainLaws.{des_laws}
 use Rattle.seal_core.specs.Parts.{AreBytes-append, AreBytes-drop, AreBytes-take}
 use Rattle.frame.specs.Frames.{frame_of}
-use Rattle.machine.specs.Events.{Event, ScriptView}
-use Rattle.machine.specs.Setup.{Setup, sealer, setup_of}
+use Rattle.machine.specs.Events.{Event}
+use Rattle.machine.specs.Setup.{Setup, sealer}
 use Rattle.machine.specs.Machine.{address_of, number_of, piece_frame, state}
 use Rattle.machine.specs.Laws.{FramesApart, IsSmallMessage, AreSmall}
 use Rattle.machine.proofs.InOrder.{nothing_sent}

@@ -1,35 +1,23 @@
 -- An event gives one message at most: the one of which it hands over a piece.
-use Rattle.std.proofs.Common.{◌≡◌, ◌≢◌, ℕ, zero, suc, ◌+◌, ◌<◌, ◌≤◌, List, [], ◌∷◌, ◌&&◌, length, map, Bool, true, false, refl, sym, ap, ap₂, subst, ◌∙◌, inl, inr, arith, ◌++◌, Option, Some, None, ◌⊎◌, append-nil}
-use Rattle.std.specs.Prelude.{◌==◌, filter, bytes_eq, if◌then◌else◌, slice_get, not, nat_lt}
-use Rattle.std.specs.List.{flat_map, range_with_len, list_any, list_all}
-use Rattle.std.proofs.lemmas.Bool.Decides.{nat_tests}
+use Rattle.std.proofs.Common.{◌≡◌, ◌≢◌, ℕ, zero, suc, ◌+◌, ◌<◌, ◌≤◌, List, [], ◌∷◌, ◌&&◌, length, map, Bool, true, false, refl, sym, ap, ap₂, subst, ◌∙◌, inl, inr, arith, ◌⊎◌}
+use Rattle.std.specs.Prelude.{◌==◌, filter, bytes_eq, if◌then◌else◌}
+use Rattle.std.specs.List.{flat_map, range_with_len}
 use Rattle.std.proofs.lemmas.Option.{slice_get_within}
 use Rattle.std.proofs.lemmas.Slice.Eq.{bytes_eq-Decides}
 use Rattle.levels.specs.declared.level.Party.{Party}
-use Rattle.levels.specs.Rosters.{is_same_party, RosterView, partition_of}
+use Rattle.levels.specs.Rosters.{is_same_party}
 use Rattle.events.specs.declared.event.Stream.{Stream}
 use Rattle.machine.specs.Events.{Event, Send, Ask, Arrive, Carry, Forge, Tamper}
 use Rattle.machine.specs.Setup.{Setup}
-use Rattle.machine.specs.Machine.{State, piece_frame, is_between, gives, Message, message_of, given_from, given_to, parties, handed, numbers_given, calls_to, calls_by, is_answered_on, replies, sent_by, after, state}
+use Rattle.machine.specs.Machine.{State, piece_frame, is_between, gives, Message, message_of, given_from, given_to, parties, calls_to}
 use Rattle.machine.specs.FalseBytes.{IsSentFrame}
-use Rattle.machine.specs.Laws.{HandsOver, OneFrame, FramesApart, replies_to}
-use Rattle.machine.proofs.Basics.{none_passes, bool_cases, both, same_number, same_party, own_party, found_still}
+use Rattle.machine.specs.Laws.{HandsOver, OneFrame, FramesApart}
+use Rattle.machine.proofs.Basics.{none_passes, bool_cases, both, same_number, same_party, own_party}
 use Rattle.machine.proofs.Giving.{gives_what_it_hands}
 use Rattle.machine.proofs.PartiesApart.{is_in, Apart, only_one}
-use Rattle.std.specs.Option.{option_map}
 use Rattle.std.proofs.lemmas.Bool.{or_right}
-use Rattle.levels.specs.declared.level.Partition.{Partition}
 use Rattle.levels.specs.declared.level.Party.TheVariants.{Host, Manager}
-use Rattle.frame.specs.Pieces.{pieces, piece_count}
-use Rattle.file_calls.specs.declared.call.Call.{Call}
-use Rattle.file_calls.specs.Spelling.{call_text, reply_text}
-use Rattle.machine.specs.declared.line.OutLine.TheVariants.{From}
-use Rattle.machine.specs.Low.{place_of}
-use Rattle.machine.specs.Sends.{Sending, sending_of, sent_on, answers}
-use Rattle.machine.specs.Given.{has_piece, has_all, has_later}
 use Rattle.machine.specs.Files.{CallRow}
-use Rattle.machine.specs.Plan.{reply}
-use Rattle.machine.proofs.Order.{AllWhole, given_is}
 
 -- an event that gives message j of s to u gives no other to u
 abbrev pub GivesAlone : Setup → State → Event → Party → Party → ℕ → Type 0

@@ -16,11 +16,11 @@ use Rattle.file_calls.specs.Names.{is_name, is_content, are_rising, is_name_list
 use Rattle.file_calls.specs.Spelling.{is_version, is_reply, call_of}
 use Rattle.untrusted_store.specs.declared.plan.StoreAction.{StoreAction}
 use Rattle.machine.specs.Setup.{Setup}
-use Rattle.machine.specs.Files.{CallRow, Directory, Write, Files, Writing, written, versions_of, next_version, writing_of, has_room, appended, writing, files}
+use Rattle.machine.specs.Files.{CallRow, Directory, Write, Writing, written, versions_of, writing_of, has_room, appended, writing, files}
 use Rattle.machine.specs.Replies.{Question, Sight, sight, is_below, write_reply, if_below, if_there, if_within, get_reply, get_block_reply, reply_by}
 use Rattle.machine.specs.Plan.{question_of, next_action, is_intact, current_content, intact_content, reply}
 use Rattle.machine.proofs.Basics.{bool_cases}
-use Rattle.machine.proofs.Directories.{Entry, AreRising, found_entry}
+use Rattle.machine.proofs.Directories.{AreRising, found_entry}
 use Rattle.machine.proofs.FilesRange.{IsFile, HoldContents, in_range}
 use Rattle.machine.proofs.Written.{stands_written}
 

@@ -1,8 +1,7 @@
 -- A roster that can be used has all keys.
-use Rattle.std.proofs.Common.{◌≡◌, ℕ, ◌<◌, length, true, Option, Some, None, refl, sym, ap, subst, ◌∙◌, arith}
+use Rattle.std.proofs.Common.{◌≡◌, ℕ, ◌<◌, length, true, Option, Some, None, refl, arith}
 use Rattle.std.specs.Prelude.{IsSome, nat_lt, slice_get, unwrap_or}
 use Rattle.std.proofs.lemmas.Bool.Decides.{nat_tests}
-use Rattle.levels.specs.declared.level.Partition.{Partition}
 use Rattle.levels.specs.declared.level.Sealing.{Sealing}
 use Rattle.levels.specs.declared.level.Sealing.TheVariants.{Clear, Des}
 use Rattle.levels.specs.Kept.{IsComplete}

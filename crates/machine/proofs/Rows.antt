@@ -1,5 +1,5 @@
 -- Worked rows: what small scripts over one roster tell, put on the wire and have as their text.
-use Rattle.std.proofs.Common.{◌≡◌, ℕ, List, [], ◌∷◌, ◌++◌, Option, Some, None, refl, replicate, take, length, reverse, arith}
+use Rattle.std.proofs.Common.{◌≡◌, ℕ, List, [], ◌∷◌, ◌++◌, None, refl, replicate, take, length, reverse, arith}
 use Rattle.std.specs.Prelude.{codes, map, ◌+◌, ◌-◌, ◌/◌, ◌%◌}
 use Rattle.std.specs.List.{range_with_len}
 use Rattle.file_calls.specs.ByteLaws.{are_bytes}
@@ -28,7 +28,7 @@ use Rattle.untrusted_store.specs.declared.plan.PlanRow.{PlanRow}
 use Rattle.guarantor.specs.Records.{record_nonce, record_plain, record_of}
 use Rattle.frame.specs.Frames.{frame_of, plain_of, nonce_of, header}
 use Rattle.machine.specs.Events.{Event, Send, Ask, Arrive, Carry, Forge, Tamper, ScriptView}
-use Rattle.machine.specs.Setup.{Setup, sealer, setup_of}
+use Rattle.machine.specs.Setup.{sealer, setup_of}
 use Rattle.machine.specs.FalseBytes.{IsFalse}
 use Rattle.machine.specs.Low.{low}
 use Rattle.machine.specs.Files.{CallRow, writing}

@@ -1,6 +1,6 @@
 -- In every state that a script reaches the messages that were sent fit frames.
-use Rattle.std.proofs.Common.{◌≡◌, ℕ, zero, suc, ◌+◌, ◌*◌, ◌^◌, ◌<◌, ◌≤◌, List, [], ◌∷◌, ◌++◌, ◌&&◌, length, map, take, reverse, Bool, true, false, Option, Some, None, refl, sym, ap, subst, ◌∙◌, ◌⊎◌, inl, inr, arith, length-append}
-use Rattle.std.specs.Prelude.{slice_get, filter, nat_le, if◌then◌else◌}
+use Rattle.std.proofs.Common.{◌≡◌, ℕ, zero, suc, ◌*◌, ◌^◌, ◌<◌, ◌≤◌, List, [], ◌∷◌, ◌&&◌, length, map, take, reverse, Bool, true, false, Option, Some, None, refl, sym, subst, ◌⊎◌, inl, inr, arith, length-append}
+use Rattle.std.specs.Prelude.{slice_get, filter, if◌then◌else◌}
 use Rattle.std.specs.Option.{option_map}
 use Rattle.std.specs.List.{AllByRecursion}
 use Rattle.std.proofs.lemmas.Bool.Decides.{nat_tests}
@@ -22,8 +22,8 @@ use Rattle.machine.specs.Sends.{Sending, sending_of, is_short, is_accepted, sent
 use Rattle.machine.specs.Files.{CallRow}
 use Rattle.machine.specs.Plan.{reply}
 use Rattle.machine.specs.Machine.{State, calls_by, is_answered_on, replies, sent_by, after, state, state_at}
-use Rattle.machine.specs.Laws.{FramesApart, IsSmallMessage, AreSmall}
-use Rattle.machine.proofs.Basics.{bool_cases, both, same_party, all_joined}
+use Rattle.machine.specs.Laws.{FramesApart, AreSmall}
+use Rattle.machine.proofs.Basics.{bool_cases, both, all_joined}
 use Rattle.machine.proofs.PartiesApart.{parties_apart}
 use Rattle.machine.proofs.OneMessage.{one_frame}
 use Rattle.machine.proofs.OneMessage.{one_call_or_none}

@@ -1,5 +1,5 @@
 -- Calls and replies are spelled in bytes, and replies are short.
-use Rattle.std.proofs.Common.{◌≡◌, ℕ, ◌+◌, ◌*◌, ◌<◌, ◌≤◌, List, [], ◌∷◌, ◌++◌, ◌&&◌, length, true, refl, sym, ap, ap₂, ◌∙◌, arith, length-append}
+use Rattle.std.proofs.Common.{◌≡◌, ℕ, ◌+◌, ◌*◌, ◌<◌, ◌≤◌, List, [], ◌∷◌, ◌++◌, ◌&&◌, length, true, arith, length-append}
 use Rattle.std.specs.Prelude.{nat_le, nat_lt}
 use Rattle.std.specs.List.{list_all, flat_map}
 use Rattle.std.specs.Int.{w16, w64, to_be_bytes}
@@ -11,7 +11,7 @@ use Rattle.file_calls.specs.declared.call.Call.{Call}
 use Rattle.file_calls.specs.declared.call.Call.TheVariants.{Put, Append, Get, GetBlock, List as ListNames, Remove}
 use Rattle.file_calls.specs.declared.call.Reply.{Reply}
 use Rattle.file_calls.specs.declared.call.Reply.TheVariants.{Done, Bytes, Refused, Missing, Damaged, Full, Removed, Names, Bad, Block, Past}
-use Rattle.file_calls.specs.Names.{is_byte, is_name_mark, is_name, is_content, are_rising, is_name_list}
+use Rattle.file_calls.specs.Names.{is_byte, is_name_mark, is_name, is_content, are_rising}
 use Rattle.file_calls.specs.Spelling.{name_text, content_text, version_text, call_text, reply_text, is_call, is_version, is_count, is_reply}
 use Rattle.machine.proofs.Basics.{both}
 use Rattle.machine.proofs.Bytes.{AreBytes-cons, AreBytes-nil, AreBytes-high, length-high}

@@ -1,5 +1,5 @@
 -- Each version that stands was written for its name and block.
-use Rattle.std.proofs.Common.{◌≡◌, ℕ, zero, suc, ◌+◌, List, [], ◌∷◌, ◌++◌, length, true, Option, Some, None, refl, sym, ap, subst, ◌∙◌, ◌⊎◌, inl, inr, arith}
+use Rattle.std.proofs.Common.{◌≡◌, ℕ, zero, suc, ◌+◌, List, [], ◌∷◌, ◌++◌, length, Some, refl, sym, ap, subst, ◌∙◌, ◌⊎◌, inl, inr, arith}
 use Rattle.std.specs.Prelude.{slice_get}
 use Rattle.std.specs.List.{AllByRecursion}
 use Rattle.std.specs.BTreeMap.{is_at}
@@ -7,7 +7,7 @@ use Rattle.file_calls.specs.Names.{name_cmp}
 use Rattle.machine.specs.Files.{CallRow, Directory, versions_of, Write, Files, written, Writing, write_of, with_writing, files}
 use Rattle.machine.proofs.Basics.{found_still}
 use Rattle.machine.proofs.Directories.{found_entry, all_inserted, all_removed}
-use Rattle.machine.proofs.Filing.{Draws, Stays, stays_through}
+use Rattle.machine.proofs.Filing.{Draws, stays_through}
 
 -- each of these versions of a name was written as its block
 abbrev pub AreWritten : List Write → List ℕ → List ℕ → Type 0

@@ -5,7 +5,6 @@ use Rattle.levels.specs.Kept.{IsRoster, IsComplete}
 use Rattle.seal_core.specs.Blocks.{AreBytes}
 use Rattle.file_calls.specs.Spelling.{is_call}
 use Rattle.levels.specs.declared.level.Party.{Party}
-use Rattle.levels.specs.declared.level.Partition.{Partition}
 use Rattle.levels.specs.Rosters.{RosterView}
 use Rattle.events.specs.declared.event.Stream.{Stream}
 use Rattle.file_calls.specs.declared.call.Call.{Call}

@@ -1,5 +1,5 @@
 -- False frames and false records: bytes that open, but weren't sealed for what they open as.
-use Rattle.std.specs.Prelude.{◌≡◌, ℕ, ◌<◌, List, [], ◌∷◌, ◌++◌, length, drop, true, false, Some, slice_get, slice_set, slice_index, bit_xor}
+use Rattle.std.specs.Prelude.{◌≡◌, ℕ, ◌<◌, List, [], ◌∷◌, drop, true, false, Some, slice_get, slice_set, slice_index, bit_xor}
 use Rattle.levels.specs.declared.level.Party.{Party}
 use Rattle.levels.specs.Rosters.{partition_of, is_same_partition}
 use Rattle.frame.specs.Pieces.{pieces}
