@@ -5,7 +5,8 @@ use Rattle.std.proofs.lemmas.Bool.{or_left, or_right}
 use Rattle.std.proofs.lemmas.List.{take_more, reverse-append}
 use Rattle.std.proofs.lemmas.Option.{slice_get_within, get_or_from_slice_get, same_Some}
 use Rattle.levels.specs.declared.level.Party.{Party}
-use Rattle.machine.specs.Events.{Event, ScriptView}
+use Rattle.events.specs.declared.event.Event.{Event}
+use Rattle.events.specs.ScriptView.{ScriptView}
 use Rattle.machine.specs.Setup.{setup_of}
 use Rattle.machine.specs.Given.{has_piece}
 use Rattle.machine.specs.Machine.{State, handed, after, state, state_at}

@@ -11,7 +11,7 @@ use Rattle.frame.specs.Pieces.{pieces}
 use Rattle.file_calls.specs.declared.call.Call.{Call}
 use Rattle.file_calls.specs.Spelling.{call_text, reply_text}
 use Rattle.machine.specs.declared.line.OutLine.TheVariants.{From}
-use Rattle.machine.specs.Events.{Send, Ask}
+use Rattle.events.specs.declared.event.Event.TheVariants.{Send, Ask}
 use Rattle.machine.specs.Setup.{Setup}
 use Rattle.machine.specs.Sends.{Sending, sending_of, sent_on, answers}
 use Rattle.machine.specs.Plan.{reply}

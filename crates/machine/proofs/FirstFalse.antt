@@ -1,6 +1,6 @@
 -- Of two events one at most is the first at which false bytes open.
 use Rattle.std.proofs.Common.{◌≡◌, ℕ, ◌<◌, ◌⊎◌, inl, inr, arith}
-use Rattle.machine.specs.Events.{ScriptView}
+use Rattle.events.specs.ScriptView.{ScriptView}
 use Rattle.machine.specs.FalseBytes.{IsFirstFalse}
 
 order : (n k : ℕ) → (n ≡ k) ⊎ ((n < k) ⊎ (k < n))

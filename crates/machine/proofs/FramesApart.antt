@@ -21,7 +21,7 @@ use Rattle.seal_core.specs.ClearLaws.{clear_laws}
 use Rattle.des_cbc.specs.ChainLaws.{des_laws}
 use Rattle.seal_core.specs.Parts.{AreBytes-append, AreBytes-drop, AreBytes-take}
 use Rattle.frame.specs.Frames.{frame_of}
-use Rattle.machine.specs.Events.{Event}
+use Rattle.events.specs.declared.event.Event.{Event}
 use Rattle.machine.specs.Setup.{Setup, sealer}
 use Rattle.machine.specs.Machine.{address_of, number_of, piece_frame, state}
 use Rattle.machine.specs.Laws.{FramesApart, IsSmallMessage, AreSmall}

@@ -6,7 +6,7 @@ use Rattle.std.proofs.lemmas.Bool.{or_left, or_right}
 use Rattle.std.proofs.lemmas.Bool.Decides.{nat_tests}
 use Rattle.levels.specs.declared.level.Party.{Party}
 use Rattle.frame.specs.Pieces.{pieces}
-use Rattle.machine.specs.Events.{Event}
+use Rattle.events.specs.declared.event.Event.{Event}
 use Rattle.machine.specs.Setup.{Setup}
 use Rattle.machine.specs.Given.{has_piece}
 use Rattle.machine.specs.Machine.{State, hands, handed_of, handed}

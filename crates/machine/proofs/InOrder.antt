@@ -8,7 +8,8 @@ use Rattle.levels.specs.Kept.{IsRoster}
 use Rattle.levels.specs.Rosters.{RosterView, is_same_party, is_partner}
 use Rattle.machine.specs.declared.line.OutLine.{OutLine}
 use Rattle.machine.specs.declared.line.OutLine.TheVariants.{Sent, Refused, From}
-use Rattle.machine.specs.Events.{Event, ScriptView}
+use Rattle.events.specs.declared.event.Event.{Event}
+use Rattle.events.specs.ScriptView.{ScriptView}
 use Rattle.machine.specs.Setup.{Setup, setup_of}
 use Rattle.machine.specs.Sends.{Sending, sending_of, sent_on, answer_to, answers}
 use Rattle.machine.specs.Given.{has_all}

@@ -12,7 +12,8 @@ use Rattle.levels.specs.declared.level.Party.TheVariants.{Manager}
 use Rattle.levels.specs.Order.{is_at_most}
 use Rattle.levels.specs.Rosters.{RosterView, is_one_partition, is_partner, partition_of, level_at, level_of}
 use Rattle.untrusted_store.specs.declared.plan.PlanRow.{PlanRow}
-use Rattle.machine.specs.Events.{ScriptView, Event}
+use Rattle.events.specs.declared.event.Event.{Event}
+use Rattle.events.specs.ScriptView.{ScriptView}
 use Rattle.machine.specs.Low.{place_of, is_within, is_low, low}
 use Rattle.machine.specs.Replies.{are_at_most, is_below}
 use Rattle.machine.proofs.Basics.{bool_cases, both}

@@ -11,7 +11,8 @@ use Rattle.levels.specs.Rosters.{RosterView, level_of, is_same_party, is_partner
 use Rattle.file_calls.specs.Spelling.{reply_text}
 use Rattle.machine.specs.declared.line.OutLine.{OutLine}
 use Rattle.machine.specs.declared.line.OutLine.TheVariants.{From}
-use Rattle.machine.specs.Events.{Event, ScriptView}
+use Rattle.events.specs.declared.event.Event.{Event}
+use Rattle.events.specs.ScriptView.{ScriptView}
 use Rattle.machine.specs.Setup.{Setup, setup_of}
 use Rattle.machine.specs.Low.{place_of, is_within, is_low, low_events, low}
 use Rattle.machine.specs.Sends.{Sending, sending_of, sent_on, answers}

@@ -8,7 +8,8 @@ use Rattle.levels.specs.declared.level.Party.TheVariants.{Host, Manager}
 use Rattle.levels.specs.Rosters.{RosterView, partition_of}
 use Rattle.file_calls.specs.declared.call.Call.{Call}
 use Rattle.file_calls.specs.Spelling.{call_text, reply_text}
-use Rattle.machine.specs.Events.{Event, Send, Ask, Arrive, Carry, Forge, Tamper}
+use Rattle.events.specs.declared.event.Event.{Event}
+use Rattle.events.specs.declared.event.Event.TheVariants.{Send, Ask, Arrive, Carry, Forge, Tamper}
 use Rattle.machine.specs.Setup.{Setup}
 use Rattle.machine.specs.Low.{place_of}
 use Rattle.machine.specs.Sends.{Sending, sending_of, sent_on}

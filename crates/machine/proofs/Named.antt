@@ -3,7 +3,8 @@ use Rattle.std.proofs.Common.{◌≡◌, ℕ, ◌&&◌, true, false, sym, ap₂,
 use Rattle.std.specs.Prelude.{◌==◌}
 use Rattle.levels.specs.declared.level.Party.{Party}
 use Rattle.events.specs.declared.event.Stream.{Stream}
-use Rattle.machine.specs.Events.{Event, Arrive, Carry}
+use Rattle.events.specs.declared.event.Event.{Event}
+use Rattle.events.specs.declared.event.Event.TheVariants.{Arrive, Carry}
 use Rattle.machine.specs.Setup.{Setup}
 use Rattle.machine.specs.Machine.{State, is_between, gives, message_of, given_to, parties}
 use Rattle.machine.specs.Laws.{given_if}

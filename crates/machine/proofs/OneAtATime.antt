@@ -5,7 +5,7 @@ use Rattle.std.specs.List.{list_any, list_all, range_with_len}
 use Rattle.std.proofs.lemmas.Bool.Decides.{nat_tests}
 use Rattle.levels.specs.declared.level.Party.{Party}
 use Rattle.frame.specs.Pieces.{pieces, piece_count}
-use Rattle.machine.specs.Events.{Event}
+use Rattle.events.specs.declared.event.Event.{Event}
 use Rattle.machine.specs.Setup.{Setup}
 use Rattle.machine.specs.Given.{has_piece, has_all, has_later}
 use Rattle.machine.specs.Machine.{State, handed, gives, state}

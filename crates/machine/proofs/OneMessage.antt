@@ -7,7 +7,8 @@ use Rattle.std.proofs.lemmas.Slice.Eq.{bytes_eq-Decides}
 use Rattle.levels.specs.declared.level.Party.{Party}
 use Rattle.levels.specs.Rosters.{is_same_party}
 use Rattle.events.specs.declared.event.Stream.{Stream}
-use Rattle.machine.specs.Events.{Event, Send, Ask, Arrive, Carry, Forge, Tamper}
+use Rattle.events.specs.declared.event.Event.{Event}
+use Rattle.events.specs.declared.event.Event.TheVariants.{Send, Ask, Arrive, Carry, Forge, Tamper}
 use Rattle.machine.specs.Setup.{Setup}
 use Rattle.machine.specs.Machine.{State, piece_frame, is_between, gives, Message, message_of, given_from, given_to, parties, calls_to}
 use Rattle.machine.specs.FalseBytes.{IsSentFrame}

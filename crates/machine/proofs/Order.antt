@@ -7,7 +7,7 @@ use Rattle.std.proofs.lemmas.Bool.{or_right}
 use Rattle.std.proofs.lemmas.Bool.Decides.{nat_tests}
 use Rattle.levels.specs.declared.level.Party.{Party}
 use Rattle.frame.specs.Pieces.{pieces}
-use Rattle.machine.specs.Events.{Event}
+use Rattle.events.specs.declared.event.Event.{Event}
 use Rattle.machine.specs.Setup.{Setup}
 use Rattle.machine.specs.Given.{has_piece, has_all, has_later}
 use Rattle.machine.specs.Machine.{State, handed, gives, numbers_given, sent_by, after, state}

@@ -27,7 +27,9 @@ use Rattle.untrusted_store.specs.declared.plan.StoreAction.TheVariants.{Of, Gone
 use Rattle.untrusted_store.specs.declared.plan.PlanRow.{PlanRow}
 use Rattle.guarantor.specs.Records.{record_nonce, record_plain, record_of}
 use Rattle.frame.specs.Frames.{frame_of, plain_of, nonce_of, header}
-use Rattle.machine.specs.Events.{Event, Send, Ask, Arrive, Carry, Forge, Tamper, ScriptView}
+use Rattle.events.specs.declared.event.Event.{Event}
+use Rattle.events.specs.declared.event.Event.TheVariants.{Send, Ask, Arrive, Carry, Forge, Tamper}
+use Rattle.events.specs.ScriptView.{ScriptView}
 use Rattle.machine.specs.Setup.{sealer, setup_of}
 use Rattle.machine.specs.FalseBytes.{IsFalse}
 use Rattle.machine.specs.Low.{low}

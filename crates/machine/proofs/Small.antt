@@ -15,7 +15,10 @@ use Rattle.seal_core.specs.Blocks.{AreBytes}
 use Rattle.seal_core.specs.Sealing.{IsSealing}
 use Rattle.file_calls.specs.declared.call.Call.{Call}
 use Rattle.file_calls.specs.Spelling.{call_text, reply_text, is_call}
-use Rattle.machine.specs.Events.{Event, Send, Ask, Arrive, Carry, Forge, Tamper, ScriptView, EventFits, IsEvent, IsScript}
+use Rattle.events.specs.declared.event.Event.{Event}
+use Rattle.events.specs.declared.event.Event.TheVariants.{Send, Ask, Arrive, Carry, Forge, Tamper}
+use Rattle.events.specs.ScriptView.{ScriptView}
+use Rattle.events.specs.Scripts.{EventFits, IsEvent, IsScript}
 use Rattle.machine.specs.Setup.{Setup, setup_of}
 use Rattle.machine.specs.Low.{place_of}
 use Rattle.machine.specs.Sends.{Sending, sending_of, is_short, is_accepted, sent_on}

@@ -7,7 +7,7 @@ use Rattle.levels.specs.declared.level.Party.TheVariants.{Host}
 use Rattle.levels.specs.declared.rows.HostRow.{HostRow}
 use Rattle.levels.specs.Rosters.{RosterView, level_of}
 use Rattle.machine.specs.declared.line.OutLine.{OutLine}
-use Rattle.machine.specs.Events.{ScriptView}
+use Rattle.events.specs.ScriptView.{ScriptView}
 use Rattle.machine.specs.Low.{is_within, is_low, low}
 use Rattle.machine.specs.Machine.{told}
 use Rattle.machine.specs.Text.{due_lines, due_to, host_text, hosts_in_order, text_below}

@@ -6,7 +6,9 @@ use Rattle.frame.specs.Pieces.{pieces}
 use Rattle.frame.specs.Frames.{HasHeader, Opens}
 use Rattle.file_calls.specs.Names.{is_content}
 use Rattle.guarantor.specs.Records.{record_of}
-use Rattle.machine.specs.Events.{Event, Send, Ask, Arrive, Carry, Forge, Tamper, ScriptView}
+use Rattle.events.specs.declared.event.Event.{Event}
+use Rattle.events.specs.declared.event.Event.TheVariants.{Send, Ask, Arrive, Carry, Forge, Tamper}
+use Rattle.events.specs.ScriptView.{ScriptView}
 use Rattle.machine.specs.Setup.{Setup, setup_of}
 use Rattle.machine.specs.Files.{CallRow}
 use Rattle.machine.specs.Replies.{Question}

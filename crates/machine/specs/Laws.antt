@@ -10,7 +10,9 @@ use Rattle.file_calls.specs.declared.call.Reply.TheVariants.{Bytes, Block}
 use Rattle.file_calls.specs.Spelling.{reply_text}
 use Rattle.machine.specs.declared.line.OutLine.{OutLine}
 use Rattle.machine.specs.declared.line.OutLine.TheVariants.{Sent, Refused, From}
-use Rattle.machine.specs.Events.{Event, Forge, ScriptView}
+use Rattle.events.specs.declared.event.Event.{Event}
+use Rattle.events.specs.declared.event.Event.TheVariants.{Forge}
+use Rattle.events.specs.ScriptView.{ScriptView}
 use Rattle.machine.specs.Setup.{Setup, setup_of}
 use Rattle.machine.specs.Files.{CallRow, versions_of, written, files}
 use Rattle.machine.specs.Replies.{Question, is_below, block_version}

@@ -1,4 +1,3 @@
-pub mod Events
 pub mod Setup
 pub mod Low
 pub mod Sends

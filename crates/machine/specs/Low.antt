@@ -6,7 +6,9 @@ use Rattle.levels.specs.declared.level.Party.TheVariants.{Host, Manager}
 use Rattle.levels.specs.Order.{is_at_most}
 use Rattle.levels.specs.Rosters.{RosterView, level_of}
 use Rattle.untrusted_store.specs.declared.plan.PlanRow.{PlanRow}
-use Rattle.machine.specs.Events.{Event, Send, Ask, Arrive, Carry, Forge, Tamper, ScriptView}
+use Rattle.events.specs.declared.event.Event.{Event}
+use Rattle.events.specs.declared.event.Event.TheVariants.{Send, Ask, Arrive, Carry, Forge, Tamper}
+use Rattle.events.specs.ScriptView.{ScriptView}
 
 -- where an event happens: at the host that sends or asks, else at the unit that the network reaches
 abbrev pub place_of : Event → Party

@@ -13,7 +13,9 @@ use Rattle.events.specs.declared.event.Stream.{Stream}
 use Rattle.machine.specs.declared.line.OutLine.{OutLine}
 use Rattle.machine.specs.declared.line.OutLine.TheVariants.{From}
 use Rattle.file_calls.specs.Spelling.{reply_text}
-use Rattle.machine.specs.Events.{Event, Send, Ask, Arrive, Carry, Forge, Tamper, ScriptView}
+use Rattle.events.specs.declared.event.Event.{Event}
+use Rattle.events.specs.declared.event.Event.TheVariants.{Send, Ask, Arrive, Carry, Forge, Tamper}
+use Rattle.events.specs.ScriptView.{ScriptView}
 use Rattle.frame.specs.Frames.{frame_of}
 use Rattle.machine.specs.Setup.{Setup, setup_of}
 use Rattle.machine.specs.Low.{place_of}

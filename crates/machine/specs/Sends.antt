@@ -8,7 +8,8 @@ use Rattle.frame.specs.declared.refused.SendRefused.TheVariants.{NoPartner, TooL
 use Rattle.machine.specs.declared.line.OutLine.{OutLine}
 use Rattle.machine.specs.declared.line.OutLine.TheVariants.{Sent, Refused}
 use Rattle.file_calls.specs.Spelling.{call_text}
-use Rattle.machine.specs.Events.{Event, Send, Ask, Arrive, Carry, Forge, Tamper}
+use Rattle.events.specs.declared.event.Event.{Event}
+use Rattle.events.specs.declared.event.Event.TheVariants.{Send, Ask, Arrive, Carry, Forge, Tamper}
 
 pub record Sending : Type 0 where
   pub from : Party

@@ -10,7 +10,7 @@ use Rattle.seal_core.specs.Sealing.{Sealer}
 use Rattle.seal_core.specs.Clear.{clear_text}
 use Rattle.des_cbc.specs.Sealing.{des_text}
 use Rattle.untrusted_store.specs.declared.plan.PlanRow.{PlanRow}
-use Rattle.machine.specs.Events.{ScriptView}
+use Rattle.events.specs.ScriptView.{ScriptView}
 
 pub record Setup : Type 0 where
   pub roster : RosterView

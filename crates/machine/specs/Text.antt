@@ -12,7 +12,7 @@ use Rattle.events.specs.Words.{hex_word, party_word}
 use Rattle.machine.specs.declared.line.OutLine.{OutLine}
 use Rattle.machine.specs.declared.line.OutLine.TheVariants.{Sent, Refused, From}
 use Rattle.machine.specs.declared.line.FrameRow.{FrameRow}
-use Rattle.machine.specs.Events.{ScriptView}
+use Rattle.events.specs.ScriptView.{ScriptView}
 use Rattle.machine.specs.Low.{low, is_low}
 use Rattle.machine.specs.Machine.{told}
 use Rattle.machine.specs.Wire.{frames}

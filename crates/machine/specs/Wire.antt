@@ -4,7 +4,8 @@ use Rattle.std.specs.List.{flat_map, range_with_len}
 use Rattle.levels.specs.declared.level.Party.{Party}
 use Rattle.frame.specs.Pieces.{pieces}
 use Rattle.machine.specs.declared.line.FrameRow.{FrameRow}
-use Rattle.machine.specs.Events.{Event, ScriptView}
+use Rattle.events.specs.declared.event.Event.{Event}
+use Rattle.events.specs.ScriptView.{ScriptView}
 use Rattle.machine.specs.Setup.{Setup, setup_of}
 use Rattle.machine.specs.Low.{place_of}
 use Rattle.machine.specs.Machine.{State, parties, piece_frame, sent_by, state}

@@ -1,5 +1,5 @@
 use Rattle.std.proofs.Common.{sym, ap, ◌∙◌}
-use Rattle.machine.specs.Events.{ScriptView}
+use Rattle.events.specs.ScriptView.{ScriptView}
 use Rattle.machine.specs.Low.{low}
 use Rattle.machine.specs.Machine.{told}
 use Rattle.machine.proofs.Levels.{low_of_low}

@@ -1,5 +1,5 @@
 use Rattle.std.proofs.Common.{ap}
-use Rattle.machine.specs.Events.{ScriptView}
+use Rattle.events.specs.ScriptView.{ScriptView}
 use Rattle.machine.proofs.Twins.{text_alike}
 use Rattle.machine.proofs.laws.twins_have_one_text.Goals as goal
 
