@@ -8,22 +8,9 @@ use Rattle.file_calls.specs.declared.call.Call.{Call}
 use Rattle.file_calls.specs.declared.call.Call.TheVariants.{Put, Append, Get, GetBlock, List as ListNames, Remove}
 use Rattle.file_calls.specs.Names.{is_name, is_content}
 use Rattle.file_calls.specs.Spelling.{call_text, is_call, is_call_text, calls_at, call_of}
+use Rattle.file_calls.specs.SpellingLaws.{call_text-call_of}
 use Rattle.machine.specs.Files.{CallRow, versions_of, Files, Writing, next_version, writing_of, has_room, appended, writing, with_writing, change, files}
 use Rattle.machine.proofs.Basics.{bool_cases, both}
-
-found_passes : {A : Type 0} (P : A → Bool) (xs : List A) (x : A) → find P xs ≡ Some x → P x ≡ true
-found_passes P [] x is = cc
-found_passes P (y ∷ xs) x is = elim (bool_cases (P y)) [
-  | inl on ↦ (let same : y ≡ x = let t = rw on at is in cc in ap P (sym same) ∙ on)
-  | inr off ↦ found_passes P xs x (rw off at is)
-]
-
--- what is read as a call is one
-pub is_call_of : (bytes : List ℕ) (call : Call) → call_of bytes ≡ Some call → is_call call ≡ true
-unfolding call_of
-is_call_of bytes call is =
-    (both (bytes_eq bytes (call_text call)) (is_call call)
-    (found_passes (is_call_text bytes) (calls_at bytes) call is)).1
 
 -- a write that is accepted: it draws the next version, and stands alone or behind versions that stand
 pub record Draws (files : Files) (w : Writing) : Type 0 where
@@ -132,19 +119,19 @@ stays_change P stays files bytes None is holds = holds
 stays_change P stays files bytes (Some (Remove name)) is holds = stays.remove files name holds
 stays_change P stays files bytes (Some (Put name content)) is holds =
     stays_with P stays files (Put name content) (written_by files (Put name content))
-    (is_call_of bytes (Put name content) is) refl holds
+    (call_text-call_of bytes (Put name content) is).0 refl holds
 stays_change P stays files bytes (Some (Append name content)) is holds =
     stays_with P stays files (Append name content) (written_by files (Append name content))
-    (is_call_of bytes (Append name content) is) refl holds
+    (call_text-call_of bytes (Append name content) is).0 refl holds
 stays_change P stays files bytes (Some (Get level name)) is holds =
     stays_with P stays files (Get level name) (written_by files (Get level name))
-    (is_call_of bytes (Get level name) is) refl holds
+    (call_text-call_of bytes (Get level name) is).0 refl holds
 stays_change P stays files bytes (Some (GetBlock level name block)) is holds =
     stays_with P stays files (GetBlock level name block) (written_by files (GetBlock level name block))
-    (is_call_of bytes (GetBlock level name block) is) refl holds
+    (call_text-call_of bytes (GetBlock level name block) is).0 refl holds
 stays_change P stays files bytes (Some (ListNames level)) is holds =
     stays_with P stays files (ListNames level) (written_by files (ListNames level))
-    (is_call_of bytes (ListNames level) is) refl holds
+    (call_text-call_of bytes (ListNames level) is).0 refl holds
 
 -- then it holds of the files of every level after all calls
 pub stays_through : (P : Files → Type 0) → Stays P → (level : ℕ) (cs : List CallRow) → P (files level cs)

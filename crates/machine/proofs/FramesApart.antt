@@ -1,5 +1,5 @@
 -- Pieces of different messages to one unit have different frames, by the laws of the sealing.
-use Rattle.std.proofs.Common.{◌≡◌, ℕ, ◌-◌, ◌*◌, ◌<◌, ◌≤◌, List, [], ◌∷◌, length, take, drop, true, Option, Some, None, refl, sym, ap, subst, ◌∙◌, inl, inr, arith, length-append, drop_at}
+use Rattle.std.proofs.Common.{◌≡◌, ℕ, ◌-◌, ◌*◌, ◌<◌, ◌≤◌, List, [], ◌∷◌, length, take, drop, true, Option, Some, None, refl, sym, ap, subst, ◌∙◌, inl, inr, arith, length-append, drop_at, zero, suc}
 use Rattle.std.specs.Prelude.{slice_get, replicate, min, not, find, ◌==◌, nat_lt}
 use Rattle.std.specs.Option.{option_map}
 use Rattle.std.specs.List.{AllByRecursion}
@@ -27,7 +27,7 @@ use Rattle.machine.specs.Machine.{address_of, number_of, piece_frame, state}
 use Rattle.machine.specs.Laws.{FramesApart, IsSmallMessage, AreSmall}
 use Rattle.machine.proofs.InOrder.{nothing_sent}
 use Rattle.machine.proofs.Basics.{bool_cases, both}
-use Rattle.machine.proofs.Bytes.{AreBytes-zeros}
+use Rattle.file_calls.specs.SpellingBytes.{AreBytes-cons, AreBytes-nil}
 
 -- in one partition different pieces have different frames
 abbrev pub PiecesApart : Type 0
@@ -71,12 +71,16 @@ zeros : (b : List ℕ) → drop (length b) (padded b) ≡ replicate (88 - length
 unfolding padded
 zeros b = drop_at b (replicate (88 - length b) 0) (length b) refl
 
+zero_bytes : (n : ℕ) → AreBytes (replicate n 0)
+zero_bytes zero = AreBytes-nil
+zero_bytes (suc n) = AreBytes-cons 0 (replicate n 0) (omega arith) (zero_bytes n)
+
 payload_bytes : (body : List ℕ) (i : ℕ) → AreBytes body → AreBytes (padded (piece_bytes body i))
 unfolding padded piece_bytes
 payload_bytes body i bytes =
     AreBytes-append (take 88 (drop (88 * i) body)) (replicate (88 - length (take 88 (drop (88 * i) body))) 0)
     (AreBytes-take 88 (drop (88 * i) body) (AreBytes-drop (88 * i) body bytes))
-    (AreBytes-zeros (88 - length (take 88 (drop (88 * i) body))))
+    (zero_bytes (88 - length (take 88 (drop (88 * i) body))))
 
 is_piece : (from to p j : ℕ) (body : List ℕ) (i : ℕ) → from < 256 → to < 256 → p < 256
     → IsSmallMessage j body → i < pieces body → IsPiece (piece_of from to p j body i)

@@ -1,5 +1,4 @@
 pub mod Basics
-pub mod Bytes
 pub mod PartiesApart
 pub mod Handing
 pub mod Arrivals
@@ -17,7 +16,6 @@ pub mod FilesRange
 pub mod Questions
 pub mod ReadDown
 pub mod ReplyRange
-pub mod Texts
 pub mod Elsewhere
 pub mod LowReplies
 pub mod LowPart

@@ -32,7 +32,7 @@ use Rattle.machine.proofs.OneMessage.{one_frame}
 use Rattle.machine.proofs.OneMessage.{one_call_or_none}
 use Rattle.machine.proofs.FramesApart.{PiecesApart, frames_apart, sealer_seals}
 use Rattle.machine.proofs.ReplyRange.{reply_in_range}
-use Rattle.machine.proofs.Texts.{AreFew, call_few, reply_few}
+use Rattle.file_calls.specs.SpellingBytes.{IsShort, call_short, reply_short}
 
 -- what an event sends is bytes
 abbrev pub SendsBytes : RosterView → Event → Type 0
@@ -40,13 +40,13 @@ SendsBytes roster e = (x : Sending) → sending_of roster e ≡ Some x → AreBy
 
 -- after so many events
 record Small (x : State) (events : ℕ) : Type 0 where
-  messages : (s r : Party) → AllByRecursion (AreFew 5632) (x.sent s r)
+  messages : (s r : Party) → AllByRecursion (IsShort 5632) (x.sent s r)
   few : (s r : Party) → length (x.sent s r) ≤ 2 * events
 
 -- ---- what one event sends
 
 accepted : (roster : RosterView) (x : Sending) (own : Bool) → AreBytes x.message
-    → AllByRecursion (AreFew 5632) (if own && is_accepted roster x then x.message ∷ [] else [])
+    → AllByRecursion (IsShort 5632) (if own && is_accepted roster x then x.message ∷ [] else [])
 accepted roster x own bytes = elim (bool_cases (own && is_accepted roster x)) [
   | inl on ↦
       (let t = both (is_partner roster x.from x.to) (is_short x.message) (both own (is_accepted roster x) on).1 in
@@ -55,7 +55,7 @@ accepted roster x own bytes = elim (bool_cases (own && is_accepted roster x)) [
 ]
 
 send_few : (roster : RosterView) (o : Option Sending) (s r : Party)
-    → ((x : Sending) → o ≡ Some x → AreBytes x.message) → AllByRecursion (AreFew 5632) (sent_on roster o s r)
+    → ((x : Sending) → o ≡ Some x → AreBytes x.message) → AllByRecursion (IsShort 5632) (sent_on roster o s r)
 send_few roster None s r bytes = tt
 send_few roster (Some x) s r bytes =
     accepted roster x (is_same_party x.from s && is_same_party x.to r) (bytes x refl)
@@ -70,9 +70,9 @@ send_one roster (Some x) s r =
     one_at_most (is_same_party x.from s && is_same_party x.to r && is_accepted roster x) x.message
 
 replies_few : (m : Setup) (before cs : List CallRow)
-    → AllByRecursion (AreFew 5632) (map (λ c. reply_text (reply m before c)) cs)
+    → AllByRecursion (IsShort 5632) (map (λ c. reply_text (reply m before c)) cs)
 replies_few m before [] = tt
-replies_few m before (c ∷ cs) = (reply_few (reply m before c) (reply_in_range m before c), replies_few m before cs)
+replies_few m before (c ∷ cs) = (reply_short (reply m before c) (reply_in_range m before c), replies_few m before cs)
 
 one_reply : (m : Setup) (before new : List CallRow) (s r : Party)
     → (new ≡ []) ⊎ ((c : CallRow) × (new ≡ c ∷ []))
@@ -87,8 +87,8 @@ small_more : (m : Setup) (x : State) (e : Event) (n : ℕ) → IsRoster m.roster
     → SendsBytes m.roster e → Small x n → Small (after m e x) (suc n)
 small_more m x e n is apart bytes small = record {
   messages = λ s r.
-      all_joined (AreFew 5632) (x.sent s r) (sent_by m x e s r) (small.messages s r)
-      (all_joined (AreFew 5632) (sent_on m.roster (sending_of m.roster e) s r) (replies m x e s r)
+      all_joined (IsShort 5632) (x.sent s r) (sent_by m x e s r) (small.messages s r)
+      (all_joined (IsShort 5632) (sent_on m.roster (sending_of m.roster e) s r) (replies m x e s r)
       (send_few m.roster (sending_of m.roster e) s r bytes)
       (replies_few m x.calls (filter (is_answered_on m.roster s r) (calls_by m x e))));
   few = λ s r.
@@ -103,11 +103,11 @@ small_more m x e n is apart bytes small = record {
 
 -- ---- states
 
-message_at : (messages : List (List ℕ)) (j : ℕ) (body : List ℕ) → AllByRecursion (AreFew 5632) messages
-    → slice_get messages j ≡ Some body → AreFew 5632 body
+message_at : (messages : List (List ℕ)) (j : ℕ) (body : List ℕ) → AllByRecursion (IsShort 5632) messages
+    → slice_get messages j ≡ Some body → IsShort 5632 body
 message_at [] j body all is = cc
 message_at (message ∷ messages) zero body all is =
-    let same : message ≡ body = cc in subst (AreFew 5632) same all.0
+    let same : message ≡ body = cc in subst (IsShort 5632) same all.0
 message_at (message ∷ messages) (suc j) body all is = message_at messages j body all.1 is
 
 are_small : (x : State) (n : ℕ) → n < 2 ^ 31 → Small x n → AreSmall x
@@ -139,7 +139,7 @@ ask_bytes : (roster : RosterView) (from : ℕ) (call : Call) (o : Option Partiti
     → AreBytes x.message
 ask_bytes roster from call None x good is = cc
 ask_bytes roster from call (Some p) x good is =
-    let same : call_text call ≡ x.message = cc in subst AreBytes same (call_few call good).bytes
+    let same : call_text call ≡ x.message = cc in subst AreBytes same (call_short call good).bytes
 
 sends_bytes : (roster : RosterView) (e : Event) → EventFits e → SendsBytes roster e
 sends_bytes roster (Send from to message) fits = λ x is.
