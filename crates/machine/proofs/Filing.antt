@@ -1,15 +1,14 @@
 -- How calls change the files of a level: by writes that are accepted and by removals.
-use Rattle.std.proofs.Common.{◌≡◌, ℕ, ◌+◌, ◌<◌, List, [], ◌∷◌, length, Bool, true, false, Option, Some, None, refl, sym, ap, subst, ◌∙◌, ◌⊎◌, inl, inr, arith}
-use Rattle.std.specs.Prelude.{if◌then◌else◌, ◌==◌, nat_lt, ◌-◌, ◌^◌, find}
+use Rattle.std.proofs.Common.{◌≡◌, ℕ, ◌+◌, ◌<◌, List, [], ◌∷◌, length, Bool, true, false, Option, Some, None, refl, subst, ◌⊎◌, inl, inr, arith}
+use Rattle.std.specs.Prelude.{if◌then◌else◌, ◌==◌, nat_lt, ◌-◌, ◌^◌}
 use Rattle.std.specs.Option.{option_map}
-use Rattle.std.specs.Str.{bytes_eq}
 use Rattle.std.proofs.lemmas.Bool.Decides.{nat_tests}
 use Rattle.file_calls.specs.declared.call.Call.{Call}
 use Rattle.file_calls.specs.declared.call.Call.TheVariants.{Put, Append, Get, GetBlock, List as ListNames, Remove}
 use Rattle.file_calls.specs.Names.{is_name, is_content}
-use Rattle.file_calls.specs.Spelling.{call_text, is_call, is_call_text, calls_at, call_of}
+use Rattle.file_calls.specs.Spelling.{is_call, call_of}
 use Rattle.file_calls.specs.SpellingLaws.{call_text-call_of}
-use Rattle.machine.specs.Files.{CallRow, versions_of, Files, Writing, next_version, writing_of, has_room, appended, writing, with_writing, change, files}
+use Rattle.machine.specs.Files.{CallRow, versions_of, Files, Writing, next_version, writing_of, takes_name, appended, writing, with_writing, change, files}
 use Rattle.machine.proofs.Basics.{bool_cases, both}
 
 -- a write that is accepted: it draws the next version, and stands alone or behind versions that stand
@@ -18,7 +17,7 @@ pub record Draws (files : Files) (w : Writing) : Type 0 where
   pub few : length files.writes < 2 ^ 56 - 1
   pub front : (w.front ≡ []) ⊎ (versions_of w.name files.names ≡ Some w.front)
   pub short : length w.front < 64
-  pub room : has_room files.names w.name ≡ true
+  pub room : takes_name files.names w.name ≡ true
   pub name : is_name w.name ≡ true
   pub content : is_content w.content ≡ true
 
@@ -31,7 +30,7 @@ next_is false n v is = cc
 record IsReady (files : Files) (name front content : List ℕ) : Type 0 where
   front_is : (front ≡ []) ⊎ (versions_of name files.names ≡ Some front)
   short : length front < 64
-  room : has_room files.names name ≡ true
+  room : takes_name files.names name ≡ true
   is_name : is_name name ≡ true
   is_content : is_content content ≡ true
 
@@ -77,7 +76,7 @@ pub draws : (files : Files) (call : Call) (w : Writing) → is_call call ≡ tru
 unfolding writing
 draws files (Put name content) w good is =
     let fields = both (is_name name) (is_content content) good in
-    elim (bool_cases (has_room files.names name)) [
+    elim (bool_cases (takes_name files.names name)) [
       | inl room ↦
           (let ready : IsReady files name [] content = record {
             front_is = inl refl;

@@ -14,7 +14,7 @@ use Rattle.untrusted_store.specs.Planned.{actions}
 use Rattle.machine.specs.Setup.{Setup}
 use Rattle.machine.specs.Low.{is_low, low_rows}
 use Rattle.machine.specs.Files.{CallRow, Directory, Files, written, next_version, files}
-use Rattle.machine.specs.Replies.{Question, Sight, sight, is_below, question_by, reply_by}
+use Rattle.machine.specs.Replies.{Question, Sight, sight, is_below, question_by, reply_with}
 use Rattle.machine.specs.Plan.{question_of, question_count, next_action, is_intact, intact_content, reply}
 use Rattle.machine.proofs.Basics.{bool_cases}
 use Rattle.machine.proofs.Levels.{below_low}
@@ -124,7 +124,7 @@ unfolding reply
 reply_low m level cs c low =
     let action = action_low m level c.level cs low in
     let block = asked_low m.roster level cs c low in
-    ap₂ (λ (s : Sight) (opened : Option (List ℕ)). reply_by s opened (call_of c.message))
+    ap₂ (λ (s : Sight) (opened : Option (List ℕ)). reply_with s opened (call_of c.message))
     (sight_low m.roster level c.level cs low)
     (ap₂ (λ (a : StoreAction) (o : Option Question). intact_content a (low_calls m.roster level cs) o) action
     block

@@ -11,7 +11,7 @@ use Rattle.file_calls.specs.Spelling.{call_of}
 use Rattle.untrusted_store.specs.declared.plan.StoreAction.{StoreAction}
 use Rattle.machine.specs.Setup.{Setup}
 use Rattle.machine.specs.Files.{CallRow, Directory, Write, Writing, written, versions_of, writing, files}
-use Rattle.machine.specs.Replies.{Question, Sight, sight, block_version, question_for, question_in, question_by, write_reply, if_below, if_there, if_within, get_reply, get_block_reply, reply_by}
+use Rattle.machine.specs.Replies.{Question, Sight, sight, block_version, question_for, question_in, question_by, write_reply, if_below, if_there, if_within, get_reply, get_block_reply, reply_with}
 use Rattle.machine.specs.Plan.{question_of, next_action, is_intact, current_content, intact_content, reply}
 use Rattle.machine.specs.Laws.{content_in, ReadsDown}
 use Rattle.machine.proofs.Basics.{bool_cases}
@@ -104,8 +104,8 @@ no_content_names None version content h = cc
 no_content_names (Some names) version content h = cc
 
 opened_is : (s : Sight) (opened : Option (List ℕ)) (o : Option Call) (version : ℕ) (content : List ℕ)
-    → content_in (reply_by s opened o) ≡ Some (version, content) → Opened s opened o version content
-unfolding reply_by
+    → content_in (reply_with s opened o) ≡ Some (version, content) → Opened s opened o version content
+unfolding reply_with
 opened_is s opened None version content h = cc
 opened_is s opened (Some (Put name c)) version content h =
     absurd (no_content_write (writing s.next s.own (Put name c)) version content h)

@@ -16,8 +16,8 @@ use Rattle.file_calls.specs.Names.{is_name, is_content, are_rising, is_name_list
 use Rattle.file_calls.specs.Spelling.{is_version, is_reply, call_of}
 use Rattle.untrusted_store.specs.declared.plan.StoreAction.{StoreAction}
 use Rattle.machine.specs.Setup.{Setup}
-use Rattle.machine.specs.Files.{CallRow, Directory, Write, Writing, written, versions_of, writing_of, has_room, appended, writing, files}
-use Rattle.machine.specs.Replies.{Question, Sight, sight, is_below, write_reply, if_below, if_there, if_within, get_reply, get_block_reply, reply_by}
+use Rattle.machine.specs.Files.{CallRow, Directory, Write, Writing, written, versions_of, writing_of, takes_name, appended, writing, files}
+use Rattle.machine.specs.Replies.{Question, Sight, sight, is_below, write_reply, if_below, if_there, if_within, get_reply, get_block_reply, reply_with}
 use Rattle.machine.specs.Plan.{question_of, next_action, is_intact, current_content, intact_content, reply}
 use Rattle.machine.proofs.Basics.{bool_cases}
 use Rattle.machine.proofs.Directories.{AreRising, found_entry}
@@ -98,7 +98,7 @@ appended_next name content next (Some front) w is =
 writes_next : (next : Option ℕ) (names : Directory) (call : Call) (w : Writing)
     → writing next names call ≡ Some w → next ≡ Some w.version
 unfolding writing
-writes_next next names (Put name content) w is = if_next (has_room names name) name [] content next w is
+writes_next next names (Put name content) w is = if_next (takes_name names name) name [] content next w is
 writes_next next names (Append name content) w is =
     appended_next name content next (versions_of name names) w is
 writes_next next names (Get level name) w is = cc
@@ -171,25 +171,25 @@ below_in_range : (s : Sight) (level : ℕ) (o : Option Directory) (reply : Direc
 below_in_range s level None reply fits is fine = refl
 below_in_range s level (Some names) reply fits is fine = fine names (fits.below level names is)
 
-reply_by_in_range : (s : Sight) (opened : Option (List ℕ)) (o : Option Call)
-    → SightFits s → HoldsContent opened → is_reply (reply_by s opened o) ≡ true
-unfolding reply_by
-reply_by_in_range s opened None fits holds = refl
-reply_by_in_range s opened (Some (Put name content)) fits holds =
+reply_with_in_range : (s : Sight) (opened : Option (List ℕ)) (o : Option Call)
+    → SightFits s → HoldsContent opened → is_reply (reply_with s opened o) ≡ true
+unfolding reply_with
+reply_with_in_range s opened None fits holds = refl
+reply_with_in_range s opened (Some (Put name content)) fits holds =
     write_in_range s (Put name content) (writing s.next s.own (Put name content)) fits refl
-reply_by_in_range s opened (Some (Append name content)) fits holds =
+reply_with_in_range s opened (Some (Append name content)) fits holds =
     there_in_range (versions_of name s.own) (write_reply (writing s.next s.own (Append name content)))
     (write_in_range s (Append name content) (writing s.next s.own (Append name content)) fits refl)
-reply_by_in_range s opened (Some (Get level name)) fits holds =
+reply_with_in_range s opened (Some (Get level name)) fits holds =
     below_in_range s level (s.below level) (λ names. if_there (versions_of name names) (get_reply opened))
     fits refl (λ names fit. get_in_range names name opened (versions_of name names) fit holds refl)
-reply_by_in_range s opened (Some (GetBlock level name block)) fits holds =
+reply_with_in_range s opened (Some (GetBlock level name block)) fits holds =
     below_in_range s level (s.below level)
     (λ names. if_there (versions_of name names) (get_block_reply opened block)) fits refl
     (λ names fit. get_block_in_range names name block opened (versions_of name names) fit holds refl)
-reply_by_in_range s opened (Some (ListNames level)) fits holds =
+reply_with_in_range s opened (Some (ListNames level)) fits holds =
     names_in_range s level (s.below level) fits refl
-reply_by_in_range s opened (Some (Remove name)) fits holds =
+reply_with_in_range s opened (Some (Remove name)) fits holds =
     there_in_range (versions_of name s.own) Removed refl
 
 -- ---- what a call sees
@@ -243,7 +243,7 @@ intact_holds action before (Some question) = λ content is. elim (bool_cases (is
 pub reply_in_range : (m : Setup) (before : List CallRow) (c : CallRow) → is_reply (reply m before c) ≡ true
 unfolding reply
 reply_in_range m before c =
-    reply_by_in_range (sight m.roster c.level before)
+    reply_with_in_range (sight m.roster c.level before)
     (intact_content (next_action m before c.level) before (question_of m.roster before c)) (call_of c.message)
     (sight_fits m.roster c.level before)
     (intact_holds (next_action m before c.level) before (question_of m.roster before c))

@@ -34,7 +34,7 @@ use Rattle.machine.specs.Setup.{sealer, setup_of}
 use Rattle.machine.specs.FalseBytes.{IsFalse}
 use Rattle.machine.specs.Low.{low}
 use Rattle.machine.specs.Files.{CallRow, writing}
-use Rattle.machine.specs.Replies.{question_by, reply_by}
+use Rattle.machine.specs.Replies.{question_by, reply_with}
 use Rattle.machine.specs.Plan.{next_action, reply}
 use Rattle.machine.specs.Machine.{gives, state, state_at, told}
 use Rattle.machine.specs.Wire.{frames}
@@ -335,18 +335,18 @@ row_13_events = Ask 1 (Put note (97 ∷ 98 ∷ [])) ∷ asks 1 U 0 ∷ answers U
 
 row_13 : told (script_of [] row_13_events) (Host 5)
     ≡ Sent S 0 ∷ From S (2 ∷ (version 1 ++ 0 ∷ 2 ∷ 97 ∷ 98 ∷ [])) ∷ []
-unfolding gives piece_count call_text call_of reply_text question_by reply_by writing next_action reply
+unfolding gives piece_count call_text call_of reply_text question_by reply_with writing next_action reply
 row_13 = refl
 
 row_13_host_1 : told (script_of [] row_13_events) (Host 1)
     ≡ Sent U 0 ∷ From U (1 ∷ version 1) ∷ Sent U 1 ∷ From U (3 ∷ []) ∷ []
-unfolding gives piece_count call_text call_of reply_text question_by reply_by writing next_action reply
+unfolding gives piece_count call_text call_of reply_text question_by reply_with writing next_action reply
 row_13_host_1 = refl
 
 row_13_high_plan : told (script_of [] (Ask 5 (Put (codes "plan") (97 ∷ [])) ∷ asks 5 S 0
     ∷ row_13_events)) (Host 1)
     ≡ Sent U 0 ∷ From U (1 ∷ version 1) ∷ Sent U 1 ∷ From U (3 ∷ []) ∷ []
-unfolding gives piece_count call_text call_of reply_text question_by reply_by writing next_action reply
+unfolding gives piece_count call_text call_of reply_text question_by reply_with writing next_action reply
 row_13_high_plan = refl
 
 abbrev twice_put : List Event
@@ -358,17 +358,17 @@ once_put = Ask 1 (Put note (97 ∷ [])) ∷ asks 1 U 0 ∷ Ask 1 (Get 0 note) �
 
 row_14 : told (script_of (store 0 (Of 0 1)) twice_put) (Host 1)
     ≡ Sent U 0 ∷ Sent U 1 ∷ Sent U 2 ∷ From U (5 ∷ version 2) ∷ []
-unfolding gives piece_count call_text call_of reply_text question_by reply_by writing next_action reply
+unfolding gives piece_count call_text call_of reply_text question_by reply_with writing next_action reply
 row_14 = refl
 
 row_14_intact : told (script_of (store 0 (Of 0 1)) once_put) (Host 1)
     ≡ Sent U 0 ∷ Sent U 1 ∷ From U (2 ∷ (version 1 ++ 0 ∷ 1 ∷ 97 ∷ [])) ∷ []
-unfolding gives piece_count call_text call_of reply_text question_by reply_by writing next_action reply
+unfolding gives piece_count call_text call_of reply_text question_by reply_with writing next_action reply
 row_14_intact = refl
 
 row_14_gone : told (script_of (store 0 Gone) once_put) (Host 1)
     ≡ Sent U 0 ∷ Sent U 1 ∷ From U (5 ∷ version 1) ∷ []
-unfolding gives piece_count call_text call_of reply_text question_by reply_by writing next_action reply
+unfolding gives piece_count call_text call_of reply_text question_by reply_with writing next_action reply
 row_14_gone = refl
 
 abbrev two_files : List Event → List Event
@@ -379,7 +379,7 @@ row_16_names :
     told (script_of [] (two_files (Ask 1 (ListNames 0) ∷ asks 1 U 2 ∷ answers U 1 2 ∷ []))) (Host 1)
     ≡ Sent U 0 ∷ Sent U 1 ∷ Sent U 2
     ∷ From U (8 ∷ 2 ∷ 5 ∷ (codes "a.txt" ++ 4 ∷ codes "note")) ∷ []
-unfolding gives piece_count call_text call_of reply_text question_by reply_by writing next_action reply
+unfolding gives piece_count call_text call_of reply_text question_by reply_with writing next_action reply
 row_16_names = refl
 
 row_16_others : told (script_of [] (two_files (
@@ -389,7 +389,7 @@ row_16_others : told (script_of [] (two_files (
     ∷ Ask 1 (ListNames 1) ∷ asks 1 U 5 ∷ answers U 1 5 ∷ []))) (Host 1)
     ≡ Sent U 0 ∷ Sent U 1 ∷ Sent U 2 ∷ From U (7 ∷ []) ∷ Sent U 3 ∷ From U (4 ∷ [])
     ∷ Sent U 4 ∷ From U (9 ∷ []) ∷ Sent U 5 ∷ From U (3 ∷ []) ∷ []
-unfolding gives piece_count call_text call_of reply_text question_by reply_by writing next_action reply
+unfolding gives piece_count call_text call_of reply_text question_by reply_with writing next_action reply
 row_16_others = refl
 
 abbrev big : List ℕ
@@ -404,25 +404,25 @@ second_block = of_two_blocks (Ask 5 (GetBlock 0 big 1) ∷ asks 5 S 0 ∷ answer
 
 blocks_1 : told (script_of [] second_block) (Host 5)
     ≡ Sent S 0 ∷ From S (10 ∷ (version 2 ++ 2 ∷ 0 ∷ 1 ∷ 98 ∷ [])) ∷ []
-unfolding gives piece_count call_text call_of reply_text question_by reply_by writing next_action reply
+unfolding gives piece_count call_text call_of reply_text question_by reply_with writing next_action reply
 blocks_1 = refl
 
 blocks_1_damaged : told (script_of (store 1 (Of 0 1)) second_block) (Host 5)
     ≡ Sent S 0 ∷ From S (5 ∷ version 2) ∷ []
-unfolding gives piece_count call_text call_of reply_text question_by reply_by writing next_action reply
+unfolding gives piece_count call_text call_of reply_text question_by reply_with writing next_action reply
 blocks_1_damaged = refl
 
 blocks_1_past : told (script_of []
     (of_two_blocks (Ask 5 (GetBlock 0 big 2) ∷ asks 5 S 0 ∷ answers S 5 0 ∷ []))) (Host 5)
     ≡ Sent S 0 ∷ From S (11 ∷ 2 ∷ []) ∷ []
-unfolding gives piece_count call_text call_of reply_text question_by reply_by writing next_action reply
+unfolding gives piece_count call_text call_of reply_text question_by reply_with writing next_action reply
 blocks_1_past = refl
 
 blocks_2 : told (script_of [] (
     Ask 1 (Append (codes "none") (0 ∷ [])) ∷ asks 1 U 0 ∷ answers U 1 0
     ∷ Ask 1 (GetBlock 1 big 0) ∷ asks 1 U 1 ∷ answers U 1 1 ∷ [])) (Host 1)
     ≡ Sent U 0 ∷ From U (4 ∷ []) ∷ Sent U 1 ∷ From U (3 ∷ []) ∷ []
-unfolding gives piece_count call_text call_of reply_text question_by reply_by writing next_action reply
+unfolding gives piece_count call_text call_of reply_text question_by reply_with writing next_action reply
 blocks_2 = refl
 
 -- a name of four bytes: `n`, and a number in three digits
@@ -440,17 +440,17 @@ abbrev all_names : List CallRow
 all_names = map (λ k. put_numbered (127 - k)) (range_with_len 0 128)
 
 row_15_full : reply (setup_of (script_of [] [])) all_names (put_numbered 128) ≡ Full
-unfolding call_text call_of question_by reply_by writing next_action reply
+unfolding call_text call_of question_by reply_with writing next_action reply
 row_15_full = refl
 
 row_15_again : reply_text (reply (setup_of (script_of [] [])) all_names (put_numbered 0)) ≡ 1 ∷ version 129
-unfolding call_text call_of reply_text question_by reply_by writing next_action reply
+unfolding call_text call_of reply_text question_by reply_with writing next_action reply
 row_15_again = refl
 
 row_15_other_level :
     reply_text (reply (setup_of (script_of [] [])) all_names (call_at 1 (Put (numbered 0) (97 ∷ []))))
     ≡ 1 ∷ version 1
-unfolding call_text call_of reply_text question_by reply_by writing next_action reply
+unfolding call_text call_of reply_text question_by reply_with writing next_action reply
 row_15_other_level = refl
 
 -- a file of 64 blocks, the newest first
@@ -458,7 +458,7 @@ abbrev all_blocks : List CallRow
 all_blocks = replicate 63 (call_at 0 (Append big (98 ∷ []))) ++ call_at 0 (Put big (97 ∷ [])) ∷ []
 
 blocks_2_full : reply (setup_of (script_of [] [])) all_blocks (call_at 0 (Append big (98 ∷ []))) ≡ Full
-unfolding call_text call_of question_by reply_by writing next_action reply
+unfolding call_text call_of question_by reply_with writing next_action reply
 blocks_2_full = refl
 
 -- ---- a day at three levels
@@ -495,7 +495,7 @@ row_23 : text (record { roster = roster_of_three; rows = []; events = day })
     ++ codes "host 3 C\nsent 4 0\nsent 4 1\nsent 4 2\nsent C 0\nfrom C 03\n"
     ++ codes "host 4 C\nfrom 3 68656c6c6f\nfrom 3 627965\nhost 5 S\nsent S 0\n"
     ++ codes "host 6 S\nsent S 0\nfrom S 02000000000000000100036d6f6e\n"
-unfolding gives piece_count hosts_in_order digits encode_with call_text call_of reply_text question_by reply_by writing next_action reply
+unfolding gives piece_count hosts_in_order digits encode_with call_text call_of reply_text question_by reply_with writing next_action reply
 row_23 = refl
 
 -- ---- the record of a file

@@ -54,8 +54,8 @@ writing_of name front content version =
     record { name = name; front = front; content = content; version = version }
 
 -- a name that stands may be put again, and a new one while there are fewer than 128
-abbrev pub has_room : Directory → List ℕ → Bool
-has_room names name = is_some (versions_of name names) || nat_lt (length names) 128
+abbrev pub takes_name : Directory → List ℕ → Bool
+takes_name names name = is_some (versions_of name names) || nat_lt (length names) 128
 
 -- a file that stands gets one block more, while it has fewer than 64
 abbrev pub appended : List ℕ → List ℕ → Option ℕ → Option (List ℕ) → Option Writing
@@ -66,7 +66,7 @@ appended name content next (Some front) =
 -- what a call writes, where it is accepted, to a level with these names and this next version
 unfoldable pub writing : Option ℕ → Directory → Call → Option Writing
 writing next names (Put name content) =
-    if has_room names name then option_map (writing_of name [] content) next else None
+    if takes_name names name then option_map (writing_of name [] content) next else None
 writing next names (Append name content) = appended name content next (versions_of name names)
 writing next names call = None
 

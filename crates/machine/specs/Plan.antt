@@ -10,7 +10,7 @@ use Rattle.untrusted_store.specs.declared.plan.StoreAction.TheVariants.{Honest, 
 use Rattle.untrusted_store.specs.Planned.{action_at, answer_by}
 use Rattle.guarantor.specs.Records.{record_of}
 use Rattle.machine.specs.Files.{CallRow, written, files}
-use Rattle.machine.specs.Replies.{Question, sight, question_by, reply_by}
+use Rattle.machine.specs.Replies.{Question, sight, question_by, reply_with}
 use Rattle.machine.specs.Setup.{Setup}
 
 -- the question that a call is after the calls before it, if it is one
@@ -49,7 +49,7 @@ intact_content action before (Some question) =
 
 -- the reply to a call after the calls before it
 unfoldable pub reply : Setup → List CallRow → CallRow → Reply
-reply m before c = reply_by (sight m.roster c.level before)
+reply m before c = reply_with (sight m.roster c.level before)
     (intact_content (next_action m before c.level) before (question_of m.roster before c))
     (call_of c.message)
 

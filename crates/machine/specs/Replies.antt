@@ -101,17 +101,18 @@ get_block_reply opened block versions =
 
 -- the reply to a message; opened is what the store's answer opened to, if it opened as the block
 -- that the call asks for
-unfoldable pub reply_by : Sight → Option (List ℕ) → Option Call → Reply
-reply_by s opened None = Bad
-reply_by s opened (Some (Put name content)) = write_reply (writing s.next s.own (Put name content))
-reply_by s opened (Some (Append name content)) =
+unfoldable pub reply_with : Sight → Option (List ℕ) → Option Call → Reply
+reply_with s opened None = Bad
+reply_with s opened (Some (Put name content)) =
+    write_reply (writing s.next s.own (Put name content))
+reply_with s opened (Some (Append name content)) =
     if_there (versions_of name s.own)
     (λ versions. write_reply (writing s.next s.own (Append name content)))
-reply_by s opened (Some (Get level name)) =
+reply_with s opened (Some (Get level name)) =
     if_below (s.below level) (λ names. if_there (versions_of name names) (get_reply opened))
-reply_by s opened (Some (GetBlock level name block)) =
+reply_with s opened (Some (GetBlock level name block)) =
     if_below (s.below level)
     (λ names. if_there (versions_of name names) (get_block_reply opened block))
-reply_by s opened (Some (ListNames level)) =
+reply_with s opened (Some (ListNames level)) =
     if_below (s.below level) (λ names. Names (keys_of names))
-reply_by s opened (Some (Remove name)) = if_there (versions_of name s.own) (λ versions. Removed)
+reply_with s opened (Some (Remove name)) = if_there (versions_of name s.own) (λ versions. Removed)

@@ -9,7 +9,7 @@ ghost use Rattle.levels.specs.Order.{is_at_most};
 ghost use Rattle.levels.specs.Rosters.{is_same_party, level_of};
 ghost use Rattle.seal_core.specs.Sealing.{IsSealing};
 ghost use Rattle.file_calls.specs.declared.call.Call.{Call};
-ghost use Rattle.file_calls.specs.Spelling.{is_reply};
+ghost use Rattle.file_calls.specs.Spelling.{is_reply, reply_text, reply_of};
 ghost use Rattle.events.specs.declared.event.Stream.{Stream};
 ghost use Rattle.events.specs.Scripts.{is_known};
 ghost use Rattle.events.specs.declared.event.Event.{Event};
@@ -163,10 +163,12 @@ pub fn files_are_read_down()
         ReadsDown m.roster before c version content }
 {}
 
-/// Every reply has its fields in their ranges, so that one spelling is that of this reply alone.
+/// Every reply has its fields in their ranges, and is read back from its spelling.
 pub fn replies_keep_their_ranges()
-    ensures { (m : Setup) (before : List CallRow) (c : CallRow) →
+    ensures ranges { (m : Setup) (before : List CallRow) (c : CallRow) →
         is_reply (reply m before c) ≡ true }
+    ensures spelled { (m : Setup) (before : List CallRow) (c : CallRow) →
+        reply_of (reply_text (reply m before c)) ≡ Some (reply m before c) }
 {}
 
 /// What a manager unit has sent to a party are the replies to that party's calls, in order.
