@@ -1,4 +1,5 @@
-pub mod Bytes
+pub mod Edits
 pub mod ScriptView
 pub mod Scripts
 pub mod Words
+pub mod inside

@@ -1,5 +1,5 @@
 ghost use Rattle.std.specs.Prelude.{◌≡◌, IfOk};
-ghost use Rattle.events.specs.Bytes.{IsBytes};
+ghost use Rattle.seal_core.specs.Blocks.{AreBytes};
 
 use std::alloc::{AllocError, Global};
 use std::marker::Model;
@@ -12,13 +12,13 @@ pub struct Body {
 
 impl Model for Body {
     ghost use Rattle.std.specs.Prelude.{List, ℕ};
-    ghost use Rattle.events.specs.Bytes.{IsBytes};
+    ghost use Rattle.seal_core.specs.Blocks.{AreBytes};
 
     ghost Value = { List ℕ };
 
     ghost view = { λ a. a.bytes.items };
 
-    ghost invariant = { λ a. IsBytes a.bytes.items };
+    ghost invariant = { λ a. AreBytes a.bytes.items };
 }
 
 impl Body {
@@ -32,7 +32,7 @@ impl Body {
 
     pub fn bytes(&self) -> &[u8]
         ensures same { result.now ≡ self.now }
-        ensures bytes { IsBytes self.now }
+        ensures bytes { AreBytes self.now }
     {
         &self.bytes
     }

@@ -1,4 +1,6 @@
 use crate::body::Body;
+use crate::edits::Edits;
+use file_calls::Call;
 use levels::Party;
 
 /// An ordered pair of parties. Its messages are numbered from 0 by the sends that were accepted.
@@ -17,6 +19,11 @@ pub enum Event {
         to: Party,
         message: Body,
     },
+    /// A host sends a call to the manager unit of its level.
+    Ask {
+        from: u8,
+        call: Call,
+    },
     /// The network hands one piece of a message to a unit. Pieces are numbered from 0 to 63.
     Arrive {
         stream: Stream,
@@ -29,5 +36,18 @@ pub enum Event {
         stream: Stream,
         message: u32,
         at: Party,
+    },
+    /// The network hands a unit bytes of its own.
+    Forge {
+        at: Party,
+        bytes: [u8; 128],
+    },
+    /// The network hands a unit the frame of one piece of a message with some bytes changed.
+    Tamper {
+        stream: Stream,
+        message: u32,
+        piece: u8,
+        at: Party,
+        edits: Edits,
     },
 }

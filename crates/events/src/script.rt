@@ -1,21 +1,28 @@
-ghost use Rattle.std.specs.Prelude.{◌≡◌, ℕ, ◌<◌, ◌≤◌, [], length};
+ghost use Rattle.std.specs.Prelude.{◌≡◌, ℕ, ◌<◌, ◌≤◌, [], length, true, ◌&&◌, IsTrue};
+ghost use Rattle.seal_core.specs.Blocks.{AreBytes};
 ghost use Rattle.levels.specs.Kept.{IsComplete};
 ghost use Rattle.levels.specs.Rosters.{partition_of};
-ghost use Rattle.events.specs.Scripts.{is_known, is_named, EventFits, HasPieceNumber, AddsEvent, IsScript, line_of};
+ghost use Rattle.file_calls.specs.Spelling.{is_call};
+ghost use Rattle.events.specs.Scripts.{is_known, has_level, is_call_named, is_named, is_action_named, is_row_named, HasBlockNumber, HasNumbers, EventFits, AddsRow, AddsEvent, IsScript, line_of};
 ghost use Rattle.events.specs.declared.script.ScriptStop.TheVariants.{OutOfMemory};
 
-use crate::event::Event;
-use levels::{Party, Roster};
+use crate::event::{Event, Stream};
+use file_calls::Call;
+use levels::{Party, Roster, Sealing};
 use std::alloc::{AllocFailed, Global};
 use std::marker::Model;
+use untrusted_store::{PlanRow, StoreAction};
 
 /// The most events of a script.
 const EVENT_LIMIT: usize = 100_000;
 
-/// Why an event was not added.
+/// The most rows of a script's plan.
+const ROW_LIMIT: usize = 100_000;
+
+/// Why a row or an event was not added.
 #[derive(Clone, Copy, Debug, PartialEq, Eq)]
 pub enum ScriptStop {
-    /// It names a party that the roster doesn't have.
+    /// It names a party or a level that the roster doesn't have.
     Name,
     /// There are as many as a script holds.
     Many,
@@ -30,10 +37,11 @@ impl<T: Drop> From<AllocFailed<T>> for ScriptStop {
     }
 }
 
-/// A roster, and the events that happen to its hosts and units, in order.
+/// A roster, what the store does, and the events that happen to the hosts and units, in order.
 #[derive(Debug, Drop)]
 pub struct Script {
     roster: Roster,
+    rows: Vec<PlanRow>,
     events: Vec<Event>,
 }
 
@@ -43,10 +51,11 @@ impl Model for Script {
     ghost Value = { ScriptView };
 
     ghost use Rattle.events.specs.Scripts.{IsScript};
+    ghost use Rattle.events.specs.inside.Scripts.{view_of};
 
-    ghost view = { λ a. record { roster = a.roster; events = a.events.items } };
+    ghost view = { view_of };
 
-    ghost invariant = { λ a. IsScript (record { roster = a.roster; events = a.events.items }) };
+    ghost invariant = { λ a. IsScript (view_of a) };
 }
 
 fn is_known(roster: &Roster, party: Party) -> bool
@@ -55,36 +64,146 @@ fn is_known(roster: &Roster, party: Party) -> bool
     roster.partition_of(party).is_some()
 }
 
-/// Whether the roster has all parties that an event names.
-fn is_named(roster: &Roster, event: &Event) -> bool
-    ensures named { result ≡ is_named roster.now event.now }
+fn has_level(roster: &Roster, level: u8) -> bool
+    ensures { result ≡ has_level roster.now level }
 {
-    match event {
-        Event::Send { from, to, .. } => {
-            is_known(roster, Party::Host(*from)) && is_known(roster, *to)
+    level < roster.level_count()
+}
+
+/// Whether the roster has the level that a call names, where it names one.
+fn is_call_named(roster: &Roster, call: &Call) -> bool
+    ensures named { result ≡ is_call_named roster.now call.now }
+    ensures fits { HasBlockNumber call.now → is_call call.now ≡ true }
+{
+    match call {
+        Call::Put { name, content } | Call::Append { name, content } => {
+            let (_name, _content) = (name.bytes(), content.bytes());
+            true
         }
-        Event::Arrive { stream, at, .. } | Event::Carry { stream, at, .. } => {
-            is_known(roster, stream.from) && is_known(roster, stream.to) && is_known(roster, *at)
+        Call::Get { level, name } | Call::GetBlock { level, name, .. } => {
+            let _name = name.bytes();
+            has_level(roster, *level)
+        }
+        Call::List { level } => has_level(roster, *level),
+        Call::Remove { name } => {
+            let _name = name.bytes();
+            true
         }
     }
 }
 
+/// Whether the roster has both parties of a stream, and the unit at which something is handed over.
+fn is_handed(roster: &Roster, stream: Stream, at: Party) -> bool
+    ensures { result ≡
+        (is_known roster.now stream.from && is_known roster.now stream.to
+        && is_known roster.now at) }
+{
+    is_known(roster, stream.from) && is_known(roster, stream.to) && is_known(roster, at)
+}
+
+fn bytes_of(bytes: &[u8]) -> &[u8]
+    ensures { AreBytes bytes.now }
+{
+    bytes
+}
+
+/// The bytes of a frame.
+fn frame_bytes(bytes: &[u8; 128]) -> &[u8]
+    ensures len { length bytes.now ≡ 128 }
+    ensures bytes { AreBytes bytes.now }
+{
+    bytes_of(bytes)
+}
+
+/// Whether the roster has all parties and levels that an event names.
+fn is_named(roster: &Roster, event: &Event) -> bool
+    ensures named { result ≡ is_named roster.now event.now }
+    ensures fits { IsTrue result → HasNumbers event.now → EventFits event.now }
+{
+    match event {
+        Event::Send { from, to, message } => {
+            let _message = message.bytes();
+            is_known(roster, Party::Host(*from)) && is_known(roster, *to)
+        }
+        Event::Ask { from, call } => {
+            is_known(roster, Party::Host(*from)) && is_call_named(roster, call)
+        }
+        Event::Arrive {
+            stream,
+            message,
+            at,
+            ..
+        } => {
+            let _message = *message;
+            is_handed(roster, *stream, *at)
+        }
+        Event::Carry {
+            stream,
+            message,
+            at,
+        } => {
+            let _message = *message;
+            is_handed(roster, *stream, *at)
+        }
+        Event::Forge { at, bytes } => {
+            let _bytes = frame_bytes(bytes);
+            is_known(roster, *at)
+        }
+        Event::Tamper {
+            stream,
+            message,
+            at,
+            edits,
+            ..
+        } => {
+            let (_message, _edits) = (*message, edits.pairs());
+            is_handed(roster, *stream, *at)
+        }
+    }
+}
+
+/// Whether the roster has the reader of a row, and the level that its action names.
+fn is_row_named(roster: &Roster, row: PlanRow) -> bool
+    ensures { result ≡ is_row_named roster.now row }
+{
+    let is_action_named = match row.action {
+        StoreAction::Of { level, .. } => has_level(roster, level),
+        StoreAction::Honest | StoreAction::Flip { .. } | StoreAction::Gone => true,
+    };
+    has_level(roster, row.reader.0) && is_action_named
+}
+
 impl Script {
-    /// A script with no event.
+    /// A script with no row and no event.
     pub fn start(alloc: Global, roster: Roster) -> Script
         requires { IsComplete roster }
-        ensures { result ≡ record { roster = roster; events = [] } }
+        ensures { result ≡ record { roster = roster; rows = []; events = [] } }
     {
         let _complete = roster.is_complete();
         Script {
             roster,
+            rows: Vec::new(alloc),
             events: Vec::new(alloc),
         }
     }
 
+    /// Adds a row of the store's plan behind the others.
+    pub fn add_plan(&mut self, row: PlanRow) -> Result<(), ScriptStop>
+        ensures { AddsRow self.old self.new row result }
+    {
+        if !is_row_named(&self.roster, row) {
+            return Err(ScriptStop::Name);
+        }
+        if self.rows.len() >= ROW_LIMIT {
+            return Err(ScriptStop::Many);
+        }
+        self.rows.push(row)?;
+        Ok(())
+    }
+
     /// Adds an event behind the others.
     pub fn add_event(&mut self, event: Event) -> Result<(), ScriptStop>
-        requires { HasPieceNumber event }
+        requires { HasNumbers event }
         ensures { AddsEvent self.old self.new event result }
     {
         if !is_named(&self.roster, &event) {
@@ -102,7 +221,13 @@ impl Script {
         requires { event < length self.now.events }
         ensures { result ≡ line_of self.now event }
     {
-        u32::from(self.roster.level_count()) + u32::from(self.roster.host_count()) + event + 3
+        let roster = &self.roster;
+        let keys = match roster.sealing() {
+            Sealing::Clear => 0,
+            Sealing::Des => u32::from(roster.key_count()) + 2,
+        };
+        let above = u32::from(roster.level_count()) + keys + u32::from(roster.host_count());
+        above + self.rows.len() as u32 + event + 3
     }
 
     pub fn roster(&self) -> &Roster
@@ -110,6 +235,13 @@ impl Script {
         ensures kept { IsScript self.now }
     {
         &self.roster
+    }
+
+    /// What the store does, in the order of the lines.
+    pub fn rows(&self) -> &[PlanRow]
+        ensures { result.now ≡ self.now.rows }
+    {
+        &self.rows
     }
 
     pub fn events(&self) -> &[Event]

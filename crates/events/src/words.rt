@@ -1,4 +1,4 @@
-ghost use Rattle.std.specs.Prelude.{◌≡◌, ◌++◌, OnOk};
+ghost use Rattle.std.specs.Prelude.{◌≡◌, ◌++◌, OnOk, OnErr};
 ghost use Rattle.std.specs.Fmt.{decimal};
 ghost use Rattle.events.specs.Words.{hex_word};
 
@@ -6,7 +6,8 @@ use std::alloc::{AllocError, Global};
 
 /// Appends a number in decimal digits.
 pub fn push_number(alloc: Global, out: &mut Vec<u8>, n: u32) -> Result<(), AllocError>
-    ensures { OnOk result (out.new.items ≡ out.old.items ++ decimal n) }
+    ensures ok { OnOk result (out.new.items ≡ out.old.items ++ decimal n) }
+    ensures err { OnErr result (out.new.items ≡ out.old.items) }
 {
     let digits = n.to_string(alloc)?;
     out.extend_from_slice(digits.as_bytes())
@@ -14,7 +15,8 @@ pub fn push_number(alloc: Global, out: &mut Vec<u8>, n: u32) -> Result<(), Alloc
 
 /// Appends bytes in hexadecimal digits, or `-` where there are none.
 pub fn push_hex(alloc: Global, out: &mut Vec<u8>, bytes: &[u8]) -> Result<(), AllocError>
-    ensures { OnOk result (out.new.items ≡ out.old.items ++ hex_word bytes.now) }
+    ensures ok { OnOk result (out.new.items ≡ out.old.items ++ hex_word bytes.now) }
+    ensures err { OnErr result (out.new.items ≡ out.old.items) }
 {
     if bytes.is_empty() {
         return out.extend_from_slice(b"-".as_slice());

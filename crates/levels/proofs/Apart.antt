@@ -1,5 +1,5 @@
 -- Lists without two elements of one key.
-use Rattle.std.proofs.Common.{◌≡◌, ◌≢◌, ℕ, zero, suc, List, [], ◌∷◌, ◌++◌, length, Bool, true, false, Option, Some, None, cond, refl, sym, ◌∙◌, arith, subst}
+use Rattle.std.proofs.Common.{◌≡◌, ◌≢◌, ℕ, zero, suc, List, [], ◌∷◌, ◌++◌, length, Bool, true, false, Option, Some, None, cond, refl, sym, ap, ◌∙◌, arith, subst}
 use Rattle.std.specs.Prelude.{if◌then◌else◌, slice_get, ◌==◌, find}
 use Rattle.std.specs.List.{list_any, AllByRecursion}
 use Rattle.std.proofs.lemmas.Bool.Decides.{nat_tests}
@@ -8,7 +8,7 @@ use Rattle.std.proofs.lemmas.Option.{none-some, same_Some}
 use Rattle.levels.specs.Kept.{AreApart}
 
 -- the element at a place, with one more at the end
-get_push : {X : Type 0} (xs : List X) (y : X) (j : ℕ) → slice_get (xs ++ y ∷ []) j ≡ (if j == length xs then Some y else slice_get xs j)
+pub get_push : {X : Type 0} (xs : List X) (y : X) (j : ℕ) → slice_get (xs ++ y ∷ []) j ≡ (if j == length xs then Some y else slice_get xs j)
 get_push [] y zero = refl
 get_push [] y (suc j) = grind (arith, nat_tests)
 get_push (x ∷ xs) y zero = grind (arith, nat_tests)
@@ -21,6 +21,13 @@ apart_push key xs new apart fresh i j a b ia jb same =
     let ga = sym (get_push xs new i) ∙ ia in
     let gb = sym (get_push xs new j) ∙ jb in
     grind (arith, nat_tests, ga, gb, apart i j a b, fresh i a, fresh j b)
+
+pub apart_cons : {X K : Type 0} (key : X → K) (xs : List X) (new : X) → AreApart key xs
+    → ((i : ℕ) (a : X) → slice_get xs i ≡ Some a → key a ≢ key new) → AreApart key (new ∷ xs)
+apart_cons key xs new apart fresh zero zero a b ia jb same = refl
+apart_cons key xs new apart fresh zero (suc j) a b ia jb same = absurd (fresh j b jb (sym same ∙ ap key (sym (same_Some new a ia))))
+apart_cons key xs new apart fresh (suc i) zero a b ia jb same = absurd (fresh i a ia (same ∙ ap key (sym (same_Some new b jb))))
+apart_cons key xs new apart fresh (suc i) (suc j) a b ia jb same = ap suc (apart i j a b ia jb same)
 
 -- no element passes a test that none passes
 pub none_at : {X : Type 0} (p : X → Bool) (xs : List X) (i : ℕ) (a : X) → list_any p xs ≡ false → slice_get xs i ≡ Some a → p a ≡ false

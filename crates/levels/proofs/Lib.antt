@@ -2,3 +2,4 @@ mod Apart
 mod Bits
 mod Growth
 mod Padding
+mod SameKeys

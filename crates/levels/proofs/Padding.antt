@@ -4,7 +4,7 @@ use Rattle.std.specs.Prelude.{replicate}
 use Rattle.std.proofs.lemmas.Bool.Decides.{nat_tests}
 use Rattle.std.proofs.lemmas.List.{take_at, drop_at, drop-replicate}
 use Rattle.levels.specs.Names.{is_level_name}
-use Rattle.levels.specs.NameInside.{IsPadded}
+use Rattle.levels.specs.inside.LevelNames.{IsPadded}
 
 pub name_is_short : (text : List ℕ) → is_level_name text ≡ true → length text ≤ 8
 name_is_short text h = grind (arith, nat_tests)

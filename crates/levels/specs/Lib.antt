@@ -1,7 +1,7 @@
 pub mod Order
 pub mod Names
-pub mod NameInside
 pub mod Rosters
+pub mod Keys
 pub mod Kept
-pub mod RosterInside
 pub mod Adding
+pub mod inside

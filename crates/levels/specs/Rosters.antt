@@ -3,6 +3,7 @@ use Rattle.std.specs.Prelude.{ℕ, List, [], ◌∷◌, ◌++◌, length, map, f
 use Rattle.std.specs.List.{list_any}
 use Rattle.std.specs.Option.{option_map}
 use Rattle.std.specs.Str.{bytes_eq}
+use Rattle.seal_core.specs.declared.KeyPair.{KeyPair}
 use Rattle.levels.specs.declared.level.Level.{Level}
 use Rattle.levels.specs.declared.level.Partition.{Partition}
 use Rattle.levels.specs.declared.level.Party.{Party}
@@ -15,6 +16,9 @@ use Rattle.levels.specs.declared.rows.HostRow.{HostRow}
 pub record RosterView : Type 0 where
   pub sealing : Sealing
   pub levels : List LevelRow
+  -- under DES the key pairs that were added, in the order of the levels; none under clear sealing
+  pub keys : List KeyPair
+  pub guard : Option KeyPair
   pub hosts : List HostRow
 
 abbrev pub is_same_level : Level → Level → Bool
@@ -86,7 +90,15 @@ abbrev pub partners_of : RosterView → Party → Option (List ℕ)
 partners_of roster party = option_map (partners_in roster party) (partition_of roster party)
 
 abbrev pub with_level : RosterView → List ℕ → Level → RosterView
-with_level roster name level = record { sealing = roster.sealing; levels = roster.levels ++ record { name = name; level = level } ∷ []; hosts = roster.hosts }
+with_level roster name level =
+    record roster { levels = roster.levels ++ record { name = name; level = level } ∷ [] }
+
+abbrev pub with_keys : RosterView → KeyPair → RosterView
+with_keys roster pair = record roster { keys = roster.keys ++ pair ∷ [] }
+
+abbrev pub with_guard : RosterView → KeyPair → RosterView
+with_guard roster pair = record roster { guard = Some pair }
 
 abbrev pub with_host : RosterView → ℕ → Partition → RosterView
-with_host roster address partition = record { sealing = roster.sealing; levels = roster.levels; hosts = roster.hosts ++ record { address = address; partition = partition } ∷ [] }
+with_host roster address partition =
+    record roster { hosts = roster.hosts ++ record { address = address; partition = partition } ∷ [] }

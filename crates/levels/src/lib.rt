@@ -1,5 +1,6 @@
 #![tactic(auto)]
 
+mod keys;
 mod level;
 mod name;
 mod roster;

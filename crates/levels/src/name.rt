@@ -19,7 +19,7 @@ impl Model for LevelName {
 
     ghost Value = { List ℕ };
 
-    ghost use Rattle.levels.specs.NameInside.{text_of, IsPadded, inside_of, inside_of-text_of};
+    ghost use Rattle.levels.specs.inside.LevelNames.{text_of, IsPadded, inside_of, inside_of-text_of};
 
     ghost view = { text_of };
 

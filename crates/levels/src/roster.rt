@@ -1,16 +1,20 @@
-ghost use Rattle.std.specs.Prelude.{◌≡◌, ℕ, ◌+◌, ◌<◌, ◌≤◌, ◌↔◌, [], length, map, filter, find, position, ◌==◌, ◌||◌, not, true, false, IsTrue, IsNone, IsSome, IfOk, IfSome, ◌++◌, OnOk, OnErr, IsErrOf, Some, slice_get};
+ghost use Rattle.std.specs.Prelude.{◌≡◌, ℕ, ◌+◌, ◌<◌, ◌≤◌, ◌↔◌, [], length, map, filter, find, position, ◌==◌, ◌||◌, not, true, false, IsTrue, IsFalse, IsNone, IsSome, IfOk, IfSome, ◌++◌, OnOk, OnErr, IsErrOf, Some, None, slice_get};
 ghost use Rattle.std.specs.List.{list_any};
 ghost use Rattle.std.specs.Str.{bytes_eq};
 ghost use Rattle.std.specs.Option.{option_map};
 ghost use Rattle.levels.specs.Rosters.{is_same_level, level_named, partition_of, level_at, name_at, level_of, is_same_partition, addresses_but, partners_of};
-ghost use Rattle.levels.specs.Kept.{IsRoster, IsComplete};
-ghost use Rattle.levels.specs.Adding.{AddsLevel, AddsHost};
-ghost use Rattle.levels.specs.declared.level.Sealing.TheVariants.{Clear};
+ghost use Rattle.seal_core.specs.Blocks.{IsBlock};
+ghost use Rattle.levels.specs.Kept.{IsRoster, IsKeyPair, IsComplete};
+ghost use Rattle.levels.specs.Keys.{keys_at, guard_of, keys_of, pairs_of, is_key_refused};
+ghost use Rattle.levels.specs.Adding.{AddsLevel, AddsKeys, SetsGuard, AddsHost, is_refused};
+ghost use Rattle.levels.specs.declared.level.Sealing.TheVariants.{Des};
 ghost use Rattle.levels.specs.declared.roster.RosterStop.TheVariants.{OutOfMemory};
 
+use crate::keys::{clear_pair, is_key_of, is_key_of_guard, is_same_key, is_weak_key};
 use crate::level::{Level, Partition, Party, Sealing};
 use crate::name::LevelName;
 use crate::rows::{HostRow, LevelRow};
+use seal_core::KeyPair;
 use std::alloc::{AllocError, AllocFailed, Global};
 use std::marker::Model;
 
@@ -23,13 +27,18 @@ const HOST_LIMIT: usize = 64;
 /// The address that stands for a partition's manager unit.
 const MANAGER_ADDRESS: u8 = 0;
 
-/// Why a level or a host was not added.
+/// The byte of the guarantor's check key under clear sealing.
+const GUARD_BYTE: u8 = 0xff;
+
+/// Why something was not added to a roster.
 #[derive(Clone, Copy, Debug, PartialEq, Eq)]
 pub enum RosterStop {
     /// The name, the value or the address is there.
     Twice,
     /// There are as many as a roster holds.
     Many,
+    /// A key is weak, or is there; the parity bits are left out.
+    Key,
     OutOfMemory,
 }
 
@@ -41,11 +50,13 @@ impl<T: Drop> From<AllocFailed<T>> for RosterStop {
     }
 }
 
-/// The levels, numbered from 0, and the hosts of a network.
+/// The levels, numbered from 0, and the hosts of a network, with the keys that it is sealed under.
 #[derive(Debug, Drop)]
 pub struct Roster {
     sealing: Sealing,
     levels: Vec<LevelRow>,
+    keys: Vec<KeyPair>,
+    guard: Option<KeyPair>,
     hosts: Vec<HostRow>,
 }
 
@@ -54,7 +65,7 @@ impl Model for Roster {
 
     ghost Value = { RosterView };
 
-    ghost use Rattle.levels.specs.RosterInside.{view_of};
+    ghost use Rattle.levels.specs.inside.Rosters.{view_of};
     ghost use Rattle.levels.specs.Kept.{IsRoster};
 
     ghost view = { view_of };
@@ -110,19 +121,21 @@ fn push_addresses(
 }
 
 impl Roster {
-    /// A roster with no level and no host, of clear sealing.
+    /// A roster with no level, no key and no host.
     pub fn new(alloc: Global, sealing: Sealing) -> Roster
-        requires { sealing ≡ Clear }
-        ensures { result ≡ record { sealing = sealing; levels = []; hosts = [] } }
+        ensures { result ≡
+            record { sealing = sealing; levels = []; keys = []; guard = None; hosts = [] } }
     {
         Roster {
             sealing,
             levels: Vec::new(alloc),
+            keys: Vec::new(alloc),
+            guard: None,
             hosts: Vec::new(alloc),
         }
     }
 
-    /// Adds a level behind the others.
+    /// Adds a level behind the others. Under clear sealing it has its key pair with that.
     pub fn add_level(&mut self, name: LevelName, level: Level) -> Result<Partition, RosterStop>
         requires { level.rank ≤ 7 }
         ensures { AddsLevel self.old self.new name level result }
@@ -142,6 +155,51 @@ impl Roster {
         Ok(partition)
     }
 
+    /// Whether a key is weak or the same as one that is there.
+    fn is_key_refused(&self, key: &[u8; 8]) -> bool
+        ensures refused { result ≡ is_key_refused (keys_of (pairs_of self.now)) key.now }
+        ensures block { IsBlock key.now }
+    {
+        is_weak_key(key) || is_key_of_guard(&self.guard, key) || is_key_of(&self.keys, key)
+    }
+
+    /// Whether one of two keys is weak, or the same as the other one or as one that is there.
+    fn is_refused(&self, pair: &KeyPair) -> bool
+        ensures refused { result ≡ is_refused self.now pair.now }
+        ensures pair { IsFalse result → IsKeyPair pair.now }
+    {
+        self.is_key_refused(&pair.main)
+            || self.is_key_refused(&pair.check)
+            || is_same_key(&pair.main, &pair.check)
+    }
+
+    /// Adds the key pair of the first level without one.
+    pub fn add_keys(&mut self, keys: KeyPair) -> Result<(), RosterStop>
+        requires des { self.old.sealing ≡ Des }
+        requires level { length self.old.keys < length self.old.levels }
+        ensures { AddsKeys self.old self.new keys result }
+    {
+        if self.is_refused(&keys) {
+            return Err(RosterStop::Key);
+        }
+        self.keys.push(keys)?;
+        Ok(())
+    }
+
+    /// Sets the guarantor's key pair. It takes no memory.
+    pub fn set_guard(&mut self, keys: KeyPair) -> Result<(), RosterStop>
+        requires des { self.old.sealing ≡ Des }
+        requires levels { length self.old.keys ≡ length self.old.levels }
+        requires unset { IsNone self.old.guard }
+        ensures { SetsGuard self.old self.new keys result }
+    {
+        if self.is_refused(&keys) {
+            return Err(RosterStop::Key);
+        }
+        self.guard = Some(keys);
+        Ok(())
+    }
+
     /// Adds a host of a partition behind the others.
     pub fn add_host(&mut self, address: u8, partition: Partition) -> Result<(), RosterStop>
         requires address { (1 ≤ address) × (address ≤ 250) }
@@ -158,12 +216,16 @@ impl Roster {
         Ok(())
     }
 
-    /// Whether the roster has a level. A clear roster needs no more to be used.
+    /// Whether the roster has a level and all keys are set, so that it can be used.
     pub fn is_complete(&self) -> bool
         ensures complete { IsTrue result ↔ IsComplete self.now }
         ensures kept { IsRoster self.now }
     {
-        !self.levels.is_empty()
+        let has_keys = match self.sealing {
+            Sealing::Clear => true,
+            Sealing::Des => self.keys.len() == self.levels.len() && self.guard.is_some(),
+        };
+        !self.levels.is_empty() && has_keys
     }
 
     pub fn sealing(&self) -> Sealing
@@ -176,6 +238,13 @@ impl Roster {
         ensures { result ≡ length self.now.levels }
     {
         self.levels.len() as u8
+    }
+
+    /// How many levels have a key pair that was added; none has under clear sealing.
+    pub fn key_count(&self) -> u8
+        ensures { result ≡ length self.now.keys }
+    {
+        self.keys.len() as u8
     }
 
     pub fn host_count(&self) -> u8
@@ -205,6 +274,29 @@ impl Roster {
         ensures { name_at self.now partition ≡ Some result }
     {
         self.levels[partition.0 as usize].name
+    }
+
+    /// The key pair of a level. Under clear sealing it is eight zero bytes and eight times the byte
+    /// one above the partition's number.
+    pub fn keys_at(&self, partition: Partition) -> KeyPair
+        requires { IsSome (keys_at self.now partition) }
+        ensures { keys_at self.now partition ≡ Some result }
+    {
+        match self.sealing {
+            Sealing::Clear => clear_pair(partition.0 + 1),
+            Sealing::Des => self.keys[partition.0 as usize],
+        }
+    }
+
+    /// The guarantor's key pair. Under clear sealing it is eight zero bytes and eight bytes 255.
+    pub fn guard_keys(&self) -> KeyPair
+        requires { IsSome (guard_of self.now) }
+        ensures { guard_of self.now ≡ Some result }
+    {
+        match self.guard {
+            Some(keys) => keys,
+            None => clear_pair(GUARD_BYTE),
+        }
     }
 
     /// The partition of a level's name.

@@ -38,6 +38,7 @@ reason_word reason.Place = codes "place"
 reason_word reason.Name = codes "name"
 reason_word reason.Twice = codes "twice"
 reason_word reason.Many = codes "many"
+reason_word reason.Key = codes "key"
 reason_word reason.End = codes "end"
 
 abbrev pub refused_line : Refusal → List ℕ

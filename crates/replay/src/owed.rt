@@ -42,6 +42,7 @@ fn reason_word(reason: Reason) -> &'static [u8]
         Reason::Name => b"name".as_slice(),
         Reason::Twice => b"twice".as_slice(),
         Reason::Many => b"many".as_slice(),
+        Reason::Key => b"key".as_slice(),
         Reason::End => b"end".as_slice(),
     }
 }

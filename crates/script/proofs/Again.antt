@@ -12,11 +12,10 @@ use Rattle.levels.specs.declared.level.Party.{Party}
 use Rattle.levels.specs.declared.level.Party.TheVariants.{Host, Manager}
 use Rattle.levels.specs.declared.rows.LevelRow.{LevelRow}
 use Rattle.levels.specs.declared.rows.HostRow.{HostRow}
-use Rattle.levels.specs.declared.level.Sealing.{Sealing}
 use Rattle.levels.specs.declared.level.Sealing.TheVariants.{Clear}
 use Rattle.levels.specs.Names.{is_level_name}
 use Rattle.levels.specs.Rosters.{RosterView, level_named, host_row}
-use Rattle.levels.specs.Kept.{IsLevelRow, IsHostRow, AreApart}
+use Rattle.levels.specs.Kept.{IsRoster, IsLevelRow, IsHostRow, AreApart}
 use Rattle.events.specs.declared.event.Event.{Event}
 use Rattle.events.specs.declared.event.Event.TheVariants.{Send, Arrive, Carry}
 use Rattle.events.specs.ScriptView.{ScriptView}
@@ -265,7 +264,7 @@ module _ (L : List LevelRow) (H : List HostRow) (E : List Event) (good : IsScrip
   start_taken = (tt, refl, levels_taken (Some version_line) [] L refl good.roster.levels good.roster.names_apart good.roster.values_apart good.roster.level_room)
 
   after_start : after_all (facts []) Start ≡ made (Some level_line) (levels_with L) [] false
-  after_start = after_levels (Some version_line) [] L ∙ ap (λ (k : Option Kind). made k (levels_with L) [] false) (may_level L good.complete)
+  after_start = after_levels (Some version_line) [] L ∙ ap (λ (k : Option Kind). made k (levels_with L) [] false) (may_level L good.complete.some)
 
   network_taken : Taken (facts []) Network
   network_taken = taken_append (facts []) Start (map (line_of_host (levels_with L)) H) start_taken (subst (λ (f : Facts). Taken f (map (line_of_host (levels_with L)) H)) (sym after_start)
@@ -320,16 +319,20 @@ module _ (L : List LevelRow) (H : List HostRow) (E : List Event) (good : IsScrip
       let w = whole_text bytes (0 + length all) [] (made (Some end_line) (roster_with L H) E true) short at2 refl in
       (w.clean, ap (λ (f : Facts). script_with f.roster f.events) w.says)
 
--- a script of clear sealing is its rows
-with_clear : (P : ScriptView → Type 0) (script : ScriptView) → script.roster.sealing ≡ Clear → P (script_with (roster_with script.roster.levels script.roster.hosts) script.events) → P script
-with_clear P script clear h =
-    let R = script.roster in
-    subst P (ap (λ (s : Sealing). script_with (record { sealing = s; levels = R.levels; hosts = R.hosts }) script.events) (sym clear)) h
+-- a roster of clear sealing is its rows
+to_rows : (roster : RosterView) → IsRoster roster → roster.sealing ≡ Clear → roster ≡ roster_with roster.levels roster.hosts
+to_rows roster good clear =
+    let none = good.clear clear in
+    ap (λ s. record roster { sealing = s }) clear
+    ∙ ap (λ k. record roster { sealing = Clear; keys = k }) none.keys
+    ∙ ap (λ g. record roster { sealing = Clear; keys = []; guard = g }) none.guard
 
-to_clear : (P : ScriptView → Type 0) (script : ScriptView) → script.roster.sealing ≡ Clear → P script → P (script_with (roster_with script.roster.levels script.roster.hosts) script.events)
-to_clear P script clear h =
-    let R = script.roster in
-    subst P (ap (λ (s : Sealing). script_with (record { sealing = s; levels = R.levels; hosts = R.hosts }) script.events) clear) h
+with_clear : (P : ScriptView → Type 0) (script : ScriptView) → IsScript script → script.roster.sealing ≡ Clear → P (script_with (roster_with script.roster.levels script.roster.hosts) script.events) → P script
+with_clear P script good clear h =
+    subst P (ap (λ (r : RosterView). script_with r script.events) (sym (to_rows script.roster good.roster clear))) h
+
+to_clear : (P : ScriptView → Type 0) (script : ScriptView) → IsScript script → script.roster.sealing ≡ Clear → P script → P (script_with (roster_with script.roster.levels script.roster.hosts) script.events)
+to_clear P script good clear h = subst P (ap (λ (r : RosterView). script_with r script.events) (to_rows script.roster good.roster clear)) h
 
 abbrev ReadsAgain : ScriptView → Type 0
 ReadsAgain script = length (text_of script) ≤ 16777216 → IsClean (text_of script) × (script_of (text_of script) ≡ script)
@@ -340,7 +343,7 @@ again_text L H E good plain = again L H E good plain
 
 pub reads_again : ScriptsReadAgain
 reads_again script good plain =
-    with_clear ReadsAgain script plain.clear (again_text script.roster.levels script.roster.hosts script.events (to_clear IsScript script plain.clear good) plain.events)
+    with_clear ReadsAgain script good plain.clear (again_text script.roster.levels script.roster.hosts script.events (to_clear IsScript script good plain.clear good) plain.events)
 
 -- ---- where events stand
 
@@ -359,7 +362,7 @@ lines_written L H E good plain =
     ap (λ (texts : List (List ℕ)). take (length texts - 1) texts) (cut_script L H E good plain) ∙ take_front all []
 
 event_at : (roster : RosterView) (events : List Event) (place : ℕ) (event : Event) → slice_get events place ≡ Some event
-    → slice_get (script_lines roster events) (length roster.levels + length roster.hosts + place + 3 - 1) ≡ Some (line_of_event roster event)
+    → slice_get (script_lines roster events) (length roster.levels + 0 + length roster.hosts + place + 3 - 1) ≡ Some (line_of_event roster event)
 event_at roster events place event here =
     let levels = map line_of_level roster.levels in
     let hosts = map (line_of_host roster) roster.hosts in
@@ -374,7 +377,7 @@ event_at roster events place event here =
       length-map roster.levels line_of_level,
       length-map roster.hosts (line_of_host roster),
     ) in
-    let number : length roster.levels + length roster.hosts + place + 3 - 1 ≡ length front + place = omega arith in
+    let number : length roster.levels + 0 + length roster.hosts + place + 3 - 1 ≡ length front + place = omega arith in
     let at : slice_get said place ≡ Some (line_of_event roster event) = slice_get-map (line_of_event roster) events place ∙ ap (λ (o : Option Event). option_map (line_of_event roster) o) here in
     ap (slice_get ((front ++ said) ++ line.End ∷ [])) number
     ∙ get_left (front ++ said) (line.End ∷ []) (length front + place) (line_of_event roster event) (get_right front said place ∙ at)
@@ -386,11 +389,11 @@ stands_text : (L : List LevelRow) (H : List HostRow) (E : List Event) → IsScri
     → (place : ℕ) (event : Event) → slice_get E place ≡ Some event → StandsAt place event (script_with (roster_with L H) E)
 stands_text L H E good plain place event here =
     let all = script_lines (roster_with L H) E in
-    let number = length L + length H + place + 3 - 1 in
+    let number = length L + 0 + length H + place + 3 - 1 in
     ap (λ (texts : List (List ℕ)). slice_get texts number) (lines_written L H E good plain) ∙ slice_get-map line_text all number
     ∙ ap (λ (o : Option Line). option_map line_text o) (event_at (roster_with L H) E place event here)
 
 pub events_stand : EventsStandAtTheirLines
 events_stand script good plain place event here =
-    with_clear (StandsAt place event) script plain.clear
-    (stands_text script.roster.levels script.roster.hosts script.events (to_clear IsScript script plain.clear good) plain.events place event here)
+    with_clear (StandsAt place event) script good plain.clear
+    (stands_text script.roster.levels script.roster.hosts script.events (to_clear IsScript script good plain.clear good) plain.events place event here)

@@ -157,7 +157,7 @@ order_level roster ended name level events h ev e =
     record { shaped = one_pushed (line.Version ∷ []) line_of_level roster.levels (record { name = name; level = level }); bare = (h, ev); ended = rw e refl }
 
 host_added_some : (roster : RosterView) (address : ℕ) (o : Option Partition) (partition : Partition) → o ≡ Some partition
-    → host_added roster address o ≡ record { sealing = roster.sealing; levels = roster.levels; hosts = roster.hosts ++ record { address = address; partition = partition } ∷ [] }
+    → host_added roster address o ≡ record roster { hosts = roster.hosts ++ record { address = address; partition = partition } ∷ [] }
 host_added_some roster address o partition e = rw e refl
 
 order_host : (roster : RosterView) (ended : Bool) (address : ℕ) (level : List ℕ) (events : List Event) → events ≡ [] → ended ≡ false → is_some (level_named roster level) ≡ true
@@ -167,7 +167,7 @@ order_host roster ended address level events ev e known =
     let row : HostRow = record { address = address; partition = p.0 } in
     let said : line_of_host roster row ≡ line.Host address level = ap (λ (n : List ℕ). line.Host address n) (named_at roster level p.0 p.1) in
     let front = (line.Version ∷ []) ++ map line_of_level roster.levels in
-    let grown : RosterView = record { sealing = roster.sealing; levels = roster.levels; hosts = roster.hosts ++ row ∷ [] } in
+    let grown : RosterView = record roster { hosts = roster.hosts ++ row ∷ [] } in
     let order : InOrder ((front ++ map (line_of_host roster) roster.hosts) ++ line.Host address level ∷ []) (made (Some host_line) grown events (ended || false)) =
     record {
       shaped = ap (λ (l : Line). (front ++ map (line_of_host roster) roster.hosts) ++ l ∷ []) (sym said) ∙ one_pushed front (line_of_host roster) roster.hosts row;

@@ -92,7 +92,8 @@ as_event roster _ = None
 -- ---- all lines together
 
 abbrev pub roster_with : List LevelRow → List HostRow → RosterView
-roster_with levels hosts = record { sealing = Clear; levels = levels; hosts = hosts }
+roster_with levels hosts =
+    record { sealing = Clear; levels = levels; keys = []; guard = None; hosts = hosts }
 
 abbrev pub levels_of : List Line → List LevelRow
 levels_of lines = filter_map as_level lines

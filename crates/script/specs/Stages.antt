@@ -2,13 +2,14 @@
 use Rattle.std.specs.Prelude.{◌≡◌, ◌<◌, ◌≤◌, ℕ, List, [], ◌∷◌, ◌++◌, length, Bool, true, false, ◌||◌, Option, Some, None, Result, Ok, Err}
 use Rattle.levels.specs.Rosters.{RosterView, level_named, with_level, with_host}
 use Rattle.levels.specs.declared.level.Partition.{Partition}
+use Rattle.levels.specs.declared.level.Sealing.TheVariants.{Clear}
 use Rattle.levels.specs.declared.roster.RosterStop.{RosterStop}
 use Rattle.levels.specs.declared.roster.RosterStop.TheVariants as roster_stop
 use Rattle.events.specs.declared.script.ScriptStop.{ScriptStop}
 use Rattle.events.specs.declared.script.ScriptStop.TheVariants as script_stop
 use Rattle.script.specs.declared.line.EventWords.{EventWords}
 use Rattle.script.specs.declared.line.EventWords.TheVariants as said
-use Rattle.script.specs.declared.refusal.Reason.TheVariants.{Name, Twice, Many}
+use Rattle.script.specs.declared.refusal.Reason.TheVariants.{Name, Twice, Many, Key}
 use Rattle.events.specs.declared.event.Event.{Event}
 use Rattle.events.specs.ScriptView.{ScriptView}
 use Rattle.script.specs.declared.line.Line.{Line}
@@ -33,6 +34,7 @@ HasPiece _ = Unit {0}
 abbrev pub stop_of_roster : RosterStop → Stop
 stop_of_roster roster_stop.Twice = stop.Refused Twice
 stop_of_roster roster_stop.Many = stop.Refused Many
+stop_of_roster roster_stop.Key = stop.Refused Key
 stop_of_roster roster_stop.OutOfMemory = stop.OutOfMemory
 
 abbrev pub stop_of_script : ScriptStop → Stop
@@ -53,10 +55,10 @@ seen (Begun script) = facts_with begin_line script.roster script.events false
 seen (Events script) = facts_with event_line script.roster script.events false
 seen (Ended script) = facts_with end_line script.roster script.events true
 
--- a stage past the first level has one
+-- a stage past the first level has one, and its roster is of clear sealing
 abbrev pub HasLevel : Stage → Type 0
-HasLevel (Levels roster) = 0 < length roster.levels
-HasLevel (Hosts roster) = 0 < length roster.levels
+HasLevel (Levels roster) = (0 < length roster.levels) × (roster.sealing ≡ Clear)
+HasLevel (Hosts roster) = (0 < length roster.levels) × (roster.sealing ≡ Clear)
 HasLevel _ = Unit {0}
 
 abbrev pub with_some : {A : Type 0} → List A → Option A → List A

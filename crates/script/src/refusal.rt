@@ -18,6 +18,8 @@ pub enum Reason {
     Twice,
     /// A script holds no more lines of its kind, or the text is too long.
     Many,
+    /// A key of it is weak, or stands above it; the parity bits are left out.
+    Key,
     /// No line `end` closes the text.
     End,
 }
@@ -69,6 +71,7 @@ impl From<RosterStop> for Stop {
         match stop {
             RosterStop::Twice => Stop::Refused(Reason::Twice),
             RosterStop::Many => Stop::Refused(Reason::Many),
+            RosterStop::Key => Stop::Refused(Reason::Key),
             RosterStop::OutOfMemory => Stop::OutOfMemory,
         }
     }

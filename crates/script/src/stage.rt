@@ -27,7 +27,8 @@ pub enum Stage {
 /// The stage behind a further level line.
 #[tactic(auto, unfolding(crate::specs::Reasons::against))]
 fn add_level(mut roster: Roster, name: LevelName, level: Level) -> Result<Stage, Stop>
-    requires { level.rank ≤ 7 }
+    requires clear { roster.sealing ≡ Clear }
+    requires rank { level.rank ≤ 7 }
     ensures { TakesBehind roster [] (Line.Level name level) result }
 {
     roster.add_level(name, level)?;
@@ -37,6 +38,7 @@ fn add_level(mut roster: Roster, name: LevelName, level: Level) -> Result<Stage,
 /// The stage behind a further host line.
 #[tactic(auto, unfolding(crate::specs::Reasons::against))]
 fn add_host(mut roster: Roster, address: u8, level: LevelName) -> Result<Stage, Stop>
+    requires clear { roster.sealing ≡ Clear }
     requires levels { 0 < length roster.levels }
     requires address { (1 ≤ address) × (address ≤ 250) }
     ensures { TakesBehind roster [] (Line.Host address level) result }
@@ -74,7 +76,8 @@ impl Stage {
 
     #[tactic(auto, unfolding(crate::specs::Reasons::against))]
     fn take_level(self, alloc: Global, name: LevelName, level: Level) -> Result<Stage, Stop>
-        requires { level.rank ≤ 7 }
+        requires level { HasLevel self }
+        requires rank { level.rank ≤ 7 }
         ensures { Takes (seen self) (Line.Level name level) result }
     {
         match self {

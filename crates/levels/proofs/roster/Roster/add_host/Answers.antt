@@ -1,7 +1,7 @@
 use Rattle.std.proofs.Common.{◌≡◌, refl, None, sym, subst, ◌<◌, length, arith}
 use Rattle.std.proofs.lemmas.Result.{err_from_is_err_and}
 use Rattle.levels.specs.Rosters.{RosterView, host_row}
-use Rattle.levels.specs.RosterInside.{view_of}
+use Rattle.levels.specs.inside.Rosters.{view_of}
 use Rattle.levels.proofs.Growth.{keeps_host}
 use Rattle.levels.proofs.roster.Roster.add_host.Goals as goal
 

@@ -1,7 +1,7 @@
 use Rattle.std.proofs.Common.{◌≡◌, refl, false, arith}
 use Rattle.std.proofs.lemmas.Result.{err_from_is_err_and}
 use Rattle.levels.specs.Rosters.{is_taken}
-use Rattle.levels.specs.RosterInside.{view_of}
+use Rattle.levels.specs.inside.Rosters.{view_of}
 use Rattle.levels.proofs.Growth.{keeps_level}
 use Rattle.levels.proofs.roster.Roster.add_level.Goals as goal
 

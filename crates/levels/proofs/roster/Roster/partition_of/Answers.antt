@@ -4,7 +4,7 @@ use Rattle.levels.specs.Rosters.{RosterView, host_row}
 use Rattle.levels.specs.declared.rows.HostRow.{HostRow}
 use Rattle.levels.specs.Kept.{IsHostRow}
 use Rattle.levels.proofs.Apart.{find_all}
-use Rattle.levels.specs.RosterInside.{view_of}
+use Rattle.levels.specs.inside.Rosters.{view_of}
 use Rattle.levels.proofs.roster.Roster.partition_of.Goals as goal
 
 pub returns-in-Some-clause-found : goal.returns-in-Some-clause-found

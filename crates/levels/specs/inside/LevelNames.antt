@@ -14,14 +14,16 @@ pub record IsPadded (a : Inside) : Type 0 where
   pub zeros : drop a.length a.text ≡ replicate (8 - a.length) 0
   pub name : is_level_name (take a.length a.text) ≡ true
 
-abbrev pub padded : List ℕ → ℕ → Inside
-padded text n = record { length = n; text = text ++ replicate (8 - n) 0 }
+abbrev pub with_zeros : List ℕ → ℕ → Inside
+with_zeros text n = record { length = n; text = text ++ replicate (8 - n) 0 }
 
 abbrev pub inside_of : List ℕ → Inside
-inside_of text = padded text (length text)
+inside_of text = with_zeros text (length text)
 
 pub inside_of-text_of : (a : Inside) → IsPadded a → inside_of (text_of a) ≡ a
 inside_of-text_of a h =
-    let n : length (take a.length a.text) ≡ a.length = length-take-le a.length a.text (omega (arith, h.wide, h.short)) in
-    ap (padded (text_of a)) n
-    ∙ ap (λ (t : List ℕ). record { length = a.length; text = t }) (ap (λ (z : List ℕ). text_of a ++ z) (sym h.zeros) ∙ take-append-drop a.length a.text)
+    let n : length (take a.length a.text) ≡ a.length =
+    length-take-le a.length a.text (omega (arith, h.wide, h.short)) in
+    ap (with_zeros (text_of a)) n
+    ∙ ap (λ (t : List ℕ). record { length = a.length; text = t })
+    (ap (λ (z : List ℕ). text_of a ++ z) (sym h.zeros) ∙ take-append-drop a.length a.text)

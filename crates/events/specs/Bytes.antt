@@ -1,5 +1,0 @@
-use Rattle.std.specs.Prelude.{ℕ, ◌<◌, List, slice_index}
-
--- each is a byte
-abbrev pub IsBytes : List ℕ → Type 0
-IsBytes bytes = (i : ℕ) → slice_index bytes i < 256

@@ -1,0 +1,2 @@
+pub mod LevelNames
+pub mod Rosters

@@ -1,0 +1,5 @@
+use Rattle.machine.proofs.Small.{small_at}
+use Rattle.machine.proofs.laws.messages_fit_frames.Goals as goal
+
+pub returns : goal.returns
+returns c = small_at c.each_piece_has_a_frame_of_its_own.ensures.apart

@@ -1,0 +1,12 @@
+pub mod Setup
+pub mod Low
+pub mod Sends
+pub mod Given
+pub mod Files
+pub mod Replies
+pub mod Plan
+pub mod Machine
+pub mod Wire
+pub mod FalseBytes
+pub mod Text
+pub mod Laws
