@@ -5,13 +5,13 @@ use Rattle.std.proofs.lemmas.List.{length-take-le, reverse-reverse}
 use Rattle.seal_core.specs.declared.KeyPair.{KeyPair}
 use Rattle.seal_core.specs.Blocks.{AreBytes, IsPlain}
 use Rattle.seal_core.specs.Sealing.{OpensTo}
-use Rattle.seal_core.specs.inside.Parts.{AreBytes-take, AreBytes-drop}
+use Rattle.seal_core.specs.Parts.{AreBytes-take, AreBytes-drop}
 use Rattle.des_cbc.specs.Bits.{bits, block_bits, text_bits, text_bytes}
 use Rattle.des_cbc.specs.inside.BitLaws.{length-bits}
 use Rattle.des_cbc.specs.inside.TextLaws.{AreBlocks-text_bits, text_bytes-text_bits}
 use Rattle.des_cbc.specs.Cipher.{schedule}
 use Rattle.des_cbc.specs.Sealing.{sealed_blocks, des_text}
-use Rattle.des_cbc.specs.inside.ChainLaws.{sealed_if_checked, checked_if_sealed, des_parts}
+use Rattle.des_cbc.specs.ChainLaws.{sealed_if_checked, checked_if_sealed, des_parts}
 use Rattle.des_cbc.specs.inside.Words.{IsUnsealed}
 use Rattle.des_cbc.proofs.Blocks.{read_is}
 

@@ -6,3 +6,4 @@ pub mod Chaining
 pub mod Sealing
 pub mod Parity
 pub mod inside
+pub mod ChainLaws

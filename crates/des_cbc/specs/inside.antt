@@ -3,4 +3,3 @@ pub mod Shapes
 pub mod BitLaws
 pub mod CipherLaws
 pub mod TextLaws
-pub mod ChainLaws

@@ -2,7 +2,7 @@ ghost use Rattle.std.specs.Prelude.{◌≡◌, ◌+◌, ◌%◌, ◌↔◌, leng
 ghost use Rattle.des_cbc.specs.Bits.{bits, text_bits, text_bytes};
 ghost use Rattle.des_cbc.specs.Chaining.{unchain};
 ghost use Rattle.des_cbc.specs.Sealing.{sealed_blocks, des_text};
-ghost use Rattle.des_cbc.specs.inside.ChainLaws.{des_laws};
+ghost use Rattle.des_cbc.specs.ChainLaws.{des_laws};
 ghost use Rattle.des_cbc.specs.inside.Words.{round_key, IsUnsealed};
 
 use crate::rounds::{RoundKeys, encipher, encipher_two, reversed};

@@ -7,8 +7,8 @@ use Rattle.seal_core.specs.declared.KeyPair.{KeyPair}
 use Rattle.seal_core.specs.Blocks.{AreBytes}
 use Rattle.seal_core.specs.Sealing.{OpensTo}
 use Rattle.seal_core.specs.Clear.{clear_check, clear_text}
-use Rattle.seal_core.specs.inside.ClearLaws.{length-clear_text, clear_parts}
-use Rattle.seal_core.specs.inside.Parts.{AreBytes-take, AreBytes-drop, whole_of}
+use Rattle.seal_core.specs.ClearLaws.{length-clear_text, clear_parts}
+use Rattle.seal_core.specs.Parts.{AreBytes-take, AreBytes-drop, whole_of}
 
 -- a last part over the rest
 pub last_part : (a j : ℕ) (xs ys zs : List ℕ) → take a xs ≡ ys → a + j ≡ length xs → put_mid a j xs zs ≡ ys ++ zs

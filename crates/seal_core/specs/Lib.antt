@@ -1,4 +1,5 @@
 pub mod Blocks
 pub mod Sealing
 pub mod Clear
-pub mod inside
+pub mod Parts
+pub mod ClearLaws

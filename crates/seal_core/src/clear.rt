@@ -1,7 +1,7 @@
 ghost use Rattle.std.specs.Prelude.{◌≡◌, ◌+◌, ◌++◌, ◌≤◌, length, take, drop};
 ghost use Rattle.seal_core.specs.Blocks.{block_word};
 ghost use Rattle.seal_core.specs.Clear.{clear_check, clear_text};
-ghost use Rattle.seal_core.specs.inside.ClearLaws.{clear_laws};
+ghost use Rattle.seal_core.specs.ClearLaws.{clear_laws};
 
 use crate::{KeyPair, Nonce, Seal};
 

@@ -2,7 +2,7 @@
 use Rattle.std.proofs.Common.{◌≡◌, ℕ, zero, suc, ◌+◌, ◌*◌, ◌/◌, ◌%◌, Bool, List, [], ◌∷◌, ◌++◌, map, length, take, drop, refl, sym, ap, ap₂, ◌∙◌, arith, length-append, append_assoc, take_at, drop_at, take-append-drop}
 use Rattle.std.proofs.lemmas.List.{take_all, length-take-le, length-drop}
 use Rattle.seal_core.specs.Blocks.{AreBytes, first_blocks, blocks}
-use Rattle.seal_core.specs.inside.Parts.{AreBytes-append, AreBytes-word, AreBytes-take, AreBytes-drop}
+use Rattle.seal_core.specs.Parts.{AreBytes-append, AreBytes-word, AreBytes-take, AreBytes-drop}
 use Rattle.des_cbc.specs.Bits.{number, block_bits, block_bytes, text_bits, text_bytes}
 use Rattle.des_cbc.specs.inside.BitLaws.{length-block_bits, length-block_bytes, block_bits-block_bytes, block_bytes-block_bits}
 

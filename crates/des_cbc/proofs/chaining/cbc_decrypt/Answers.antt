@@ -3,7 +3,7 @@ use Rattle.std.proofs.lemmas.List.{reverse-reverse}
 use Rattle.des_cbc.specs.Bits.{bits, block_bits, text_bits, text_bytes}
 use Rattle.des_cbc.specs.Cipher.{cipher}
 use Rattle.des_cbc.specs.Chaining.{unchain, encrypted_text, decrypted_text}
-use Rattle.des_cbc.specs.inside.ChainLaws.{encrypted_text-decrypted_text}
+use Rattle.des_cbc.specs.ChainLaws.{encrypted_text-decrypted_text}
 use Rattle.des_cbc.specs.inside.Words.{round_key}
 use Rattle.des_cbc.proofs.Blocks.{read_is}
 use Rattle.des_cbc.proofs.ChainWalk.{all_bits, no_bits, written_more, written_all, unchain-next, unchain-none}

@@ -1,7 +1,7 @@
 use Rattle.std.proofs.Common.{◌≡◌, ◌-◌, ◌*◌, ◌/◌, ◌++◌, Bool, List, map, take, length, refl, ap, ap₂, ◌∙◌, arith}
 use Rattle.des_cbc.specs.Bits.{block_bits, block_bytes, text_bits, text_bytes}
 use Rattle.des_cbc.specs.Chaining.{chain, encrypted_text, decrypted_text}
-use Rattle.des_cbc.specs.inside.ChainLaws.{decrypted_text-encrypted_text}
+use Rattle.des_cbc.specs.ChainLaws.{decrypted_text-encrypted_text}
 use Rattle.des_cbc.specs.inside.Words.{round_key}
 use Rattle.des_cbc.proofs.Blocks.{read_is}
 use Rattle.des_cbc.proofs.RoundWalk.{unpermuted_is}

@@ -1,7 +1,7 @@
 use Rattle.std.proofs.Common.{◌≡◌, ◌++◌, length, ℕ, List, refl, ap, ap₂, ◌∙◌, arith, rules}
 use Rattle.seal_core.specs.Clear.{clear_text}
 use Rattle.seal_core.proofs.Joined.{joined}
-use Rattle.seal_core.specs.inside.ClearLaws.{length-clear_check}
+use Rattle.seal_core.specs.ClearLaws.{length-clear_check}
 use Rattle.seal_core.proofs.clear.ClearSealSeal.seal.Goals as goal
 
 pub returns : goal.returns

@@ -4,7 +4,7 @@ use Rattle.seal_core.specs.declared.KeyPair.{KeyPair}
 use Rattle.seal_core.specs.Blocks.{AreBytes, IsBlock, IsPlain}
 use Rattle.seal_core.specs.Sealing.{OpensTo, IsSealing}
 use Rattle.seal_core.specs.Clear.{clear_check, clear_text}
-use Rattle.seal_core.specs.inside.Parts.{HasParts, parts, AreBytes-append, AreBytes-word}
+use Rattle.seal_core.specs.Parts.{HasParts, parts, AreBytes-append, AreBytes-word}
 
 pub length-clear_check : (key nonce plain : List ℕ) → length (clear_check key nonce plain) ≡ 8
 unfolding clear_check

@@ -3,7 +3,7 @@ use Rattle.std.proofs.Common.{◌≡◌, ℕ, suc, ◌+◌, ◌/◌, ◌%◌, Bo
 use Rattle.seal_core.specs.declared.KeyPair.{KeyPair}
 use Rattle.seal_core.specs.Blocks.{AreBytes, IsBlock, IsPlain}
 use Rattle.seal_core.specs.Sealing.{OpensTo, IsSealing}
-use Rattle.seal_core.specs.inside.Parts.{AreBytes-append}
+use Rattle.seal_core.specs.Parts.{AreBytes-append}
 use Rattle.des_cbc.specs.Bits.{xor_bits, block_bits, text_bits, text_bytes}
 use Rattle.des_cbc.specs.Cipher.{cipher, decipher, schedule}
 use Rattle.des_cbc.specs.Chaining.{chain, unchain, encrypted_text, decrypted_text}

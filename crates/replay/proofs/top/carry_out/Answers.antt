@@ -1,0 +1,28 @@
+use Rattle.std.proofs.Common.{◌≡◌, refl, inl}
+use Rattle.replay.specs.declared.status.Status.TheVariants.{Refused}
+use Rattle.replay.specs.Due.{Due, refused, refused_line}
+use Rattle.replay.specs.inside.Owing.{IsOwed, too_long}
+use Rattle.replay.proofs.Ends.{delivers_due, owed_is_due, takes_just}
+use Rattle.replay.proofs.top.carry_out.Goals as goal
+
+pub returns-in-Ok-clause-read_fault : goal.returns-in-Ok-clause-read_fault
+returns-in-Ok-clause-read_fault g c = λ fault. absurd (c.answer.ensures.read fault)
+
+pub returns-in-Ok-clause-unwritten : goal.returns-in-Ok-clause-unwritten
+returns-in-Ok-clause-unwritten g c = λ fault. absurd (c.answer.ensures.read fault)
+
+pub returns-in-Err-TooMany-clause-delivers : goal.returns-in-Err-TooMany-clause-delivers
+returns-in-Err-TooMany-clause-delivers g c = λ bytes tells.
+    let long = rw tells at c.in-Err-TooMany.ensures.too_many in
+    let due = refused c.args.command too_long (inl (long, refl)) in
+    delivers_due _ _ c.refuse_long.result _ _ (owed_is_due bytes _ (Refused too_long) (refused_line too_long) due)
+        c.refuse_long.ensures.answer
+
+pub returns-in-Err-TooMany-clause-taken : goal.returns-in-Err-TooMany-clause-taken
+returns-in-Err-TooMany-clause-taken g c = takes_just _ _ _ c.in-Err-TooMany.ensures.taken
+
+pub returns-in-Err-TooMany-clause-read_fault : goal.returns-in-Err-TooMany-clause-read_fault
+returns-in-Err-TooMany-clause-read_fault g c = λ fault. absurd (c.refuse_long.ensures.read fault)
+
+pub returns-in-Err-TooMany-clause-unwritten : goal.returns-in-Err-TooMany-clause-unwritten
+returns-in-Err-TooMany-clause-unwritten g c = λ fault. absurd (c.refuse_long.ensures.read fault)
