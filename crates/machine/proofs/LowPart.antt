@@ -72,8 +72,7 @@ call_kept_at roster level (Manager p) (l ∷ ls) low =
     rw low (ap (λ (cs : List CallRow). record {
       caller = l.from;
       level = p.0;
-      message =
-          l.body;
+      message = l.body;
     } ∷ cs) (call_kept_at roster level (Manager p) ls low))
 
 gives_same : (m : Setup) (level : Level) (x y : State) (e : Event) (s u : Party) (j : ℕ)
@@ -125,13 +124,11 @@ replies_same_at m level cs (Manager p) (l ∷ ls) s r low =
             reply_low m level cs (record {
               caller = l.from;
               level = p.0;
-              message =
-                  l.body;
+              message = l.body;
             }) low,
           ) (ap (λ (ts : List (List ℕ)). reply_text (reply m cs (record {
             caller = l.from;
-            level =
-                p.0;
+            level = p.0;
             message = l.body;
           })) ∷ ts) more)
       | inr off ↦ rw off more
@@ -215,8 +212,7 @@ agrees m level [] = record {
   sent = λ s r low. refl;
   arrived = λ s r low. refl;
   given = λ s r low. refl;
-  calls =
-      refl;
+  calls = refl;
   told = λ r low. refl;
 }
 agrees m level (e ∷ past) = elim (bool_cases (is_low m.roster level (place_of e))) [

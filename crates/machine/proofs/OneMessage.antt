@@ -51,8 +51,7 @@ forged m x at bytes s u j i h =
       body = h.body;
       sent = h.sent;
       piece = h.piece;
-      same =
-          (bytes_eq-Decides bytes (piece_frame m s u j h.body i)).0 t.1;
+      same = (bytes_eq-Decides bytes (piece_frame m s u j h.body i)).0 t.1;
     })
 
 -- an event hands over pieces of one message alone
@@ -159,8 +158,7 @@ is_forged m x bytes s u j i h =
       body = h.body;
       sent = h.sent;
       piece = h.piece;
-      hands =
-          rw (own_party u) ((bytes_eq-Decides bytes (piece_frame m s u j h.body i)).1 h.same);
+      hands = rw (own_party u) ((bytes_eq-Decides bytes (piece_frame m s u j h.body i)).1 h.same);
     }
 
 filter_cases : (P : ℕ → Bool) (xs : List ℕ) → (filter P xs ≡ []) ⊎ ((k : ℕ) × (P k ≡ true))
@@ -187,8 +185,7 @@ given_cases m x e u (t ∷ ts) = elim (filter_cases (gives m x e t u) (range_wit
         inr (record {
           from = later.from;
           number = later.number;
-          there =
-              or_right (is_same_party t later.from) (is_in later.from ts) later.there;
+          there = or_right (is_same_party t later.from) (is_in later.from ts) later.there;
           gives = later.gives;
         })
   ]
@@ -216,8 +213,7 @@ one_call_or_none m x e (Manager p) one apart = elim (one_or_none m x e (Manager 
         record {
           caller = some.0.from;
           level = p.0;
-          message =
-              some.0.body;
+          message = some.0.body;
         },
         ap (calls_to (Manager p)) some.1,
       )
