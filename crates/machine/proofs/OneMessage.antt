@@ -10,7 +10,7 @@ use Rattle.events.specs.declared.event.Stream.{Stream}
 use Rattle.events.specs.declared.event.Event.{Event}
 use Rattle.events.specs.declared.event.Event.TheVariants.{Send, Ask, Arrive, Carry, Forge, Tamper}
 use Rattle.machine.specs.Setup.{Setup}
-use Rattle.machine.specs.Machine.{State, piece_frame, is_between, gives, Message, message_of, given_from, given_to, parties, calls_to}
+use Rattle.machine.specs.Machine.{call_row, State, piece_frame, is_between, gives, Message, message_of, given_from, given_to, parties, calls_to}
 use Rattle.machine.specs.FalseBytes.{IsSentFrame}
 use Rattle.machine.specs.Laws.{HandsOver, OneFrame, FramesApart}
 use Rattle.machine.proofs.Basics.{none_passes, bool_cases, both, same_number, same_party, own_party}
@@ -208,13 +208,5 @@ pub one_call_or_none : (m : Setup) (x : State) (e : Event) (u : Party) → OneFr
 one_call_or_none m x e (Host address) one apart = inl refl
 one_call_or_none m x e (Manager p) one apart = elim (one_or_none m x e (Manager p) one apart) [
   | inl none ↦ inl (ap (calls_to (Manager p)) none)
-  | inr some ↦
-      inr (
-        record {
-          caller = some.0.from;
-          level = p.0;
-          message = some.0.body;
-        },
-        ap (calls_to (Manager p)) some.1,
-      )
+  | inr some ↦ inr (call_row p.0 some.0, ap (calls_to (Manager p)) some.1)
 ]
