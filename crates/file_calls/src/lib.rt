@@ -13,3 +13,6 @@ pub use laws::{calls_have_one_spelling, replies_have_one_spelling};
 pub use name::{Content, Name, NameList};
 pub use read::{read_call, read_reply};
 pub use write::{write_call, write_reply};
+
+#[cfg(test)]
+mod tests;

@@ -6,13 +6,16 @@ use Rattle.levels.specs.declared.level.Party.TheVariants.{Host}
 use Rattle.levels.specs.Order.{is_at_most}
 use Rattle.levels.specs.Rosters.{RosterView, level_of}
 use Rattle.events.specs.declared.event.Event.{Event}
-use Rattle.events.specs.declared.event.Event.TheVariants.{Send, Arrive, Carry}
+use Rattle.events.specs.declared.event.Event.TheVariants.{Send, Ask, Arrive, Carry, Forge, Tamper}
 
--- where an event happens: at its sender, else at its unit
+-- where an event happens: at its host, else at its unit
 abbrev pub place_of : Event → Party
 place_of (Send from to message) = Host from
+place_of (Ask from call) = Host from
 place_of (Arrive stream message piece at) = at
 place_of (Carry stream message at) = at
+place_of (Forge at bytes) = at
+place_of (Tamper stream message piece at edits) = at
 
 abbrev pub is_within : Option Level → Level → Bool
 is_within None level = false

@@ -4,7 +4,7 @@ use Rattle.levels.specs.declared.level.Party.{Party}
 use Rattle.levels.specs.declared.level.Party.TheVariants.{Host}
 use Rattle.levels.specs.Rosters.{RosterView, is_same_party, is_partner}
 use Rattle.events.specs.declared.event.Event.{Event}
-use Rattle.events.specs.declared.event.Event.TheVariants.{Send, Arrive, Carry}
+use Rattle.events.specs.declared.event.Event.TheVariants.{Send}
 
 -- a send is accepted where the receiver is a partner and the message has at most 5,632 bytes
 abbrev pub is_accepted : RosterView → Party → Party → List ℕ → Bool
@@ -13,9 +13,9 @@ is_accepted roster s r message = is_partner roster s r && nat_le (length message
 -- the messages that an event sends from s to r: one or none
 abbrev pub sent_by : RosterView → Event → Party → Party → List (List ℕ)
 sent_by roster (Send from to message) s r =
-    if is_same_party (Host from) s && is_same_party to r && is_accepted roster s r message then message ∷ [] else []
-sent_by roster (Arrive stream message piece at) s r = []
-sent_by roster (Carry stream message at) s r = []
+    if is_same_party (Host from) s && is_same_party to r && is_accepted roster s r message
+    then message ∷ [] else []
+sent_by roster _ s r = []
 
 -- the messages from s to r, numbered from 0; a manager unit sends none yet
 abbrev pub sent : RosterView → Party → Party → List Event → List (List ℕ)

@@ -32,7 +32,8 @@ line_text roster l = line (words_of roster l)
 
 -- a host's address, and its level's name
 abbrev pub heading : RosterView → HostRow → List ℕ
-heading roster row = line (codes "host" ∷ decimal row.address ∷ party_word roster (Manager row.partition) ∷ [])
+heading roster row =
+    line (codes "host" ∷ decimal row.address ∷ party_word roster (Manager row.partition) ∷ [])
 
 -- a host's heading, and below it its lines
 abbrev pub host_text : RosterView → HostRow → List OutLine → List ℕ
@@ -41,7 +42,8 @@ host_text roster row lines = heading roster row ++ flat_map (line_text roster) l
 -- what is due to a host: what the events at or below its level alone tell it
 abbrev pub due_to : ScriptView → HostRow → List ℕ
 due_to script row =
-    host_text script.roster row (told_within script.roster script.events (Host row.address) (level_of script.roster (Host row.address)))
+    let level = level_of script.roster (Host row.address) in
+    host_text script.roster row (told_within script.roster script.events (Host row.address) level)
 
 abbrev pub due_at : ScriptView → Option HostRow → List ℕ
 due_at script None = []
@@ -49,7 +51,8 @@ due_at script (Some row) = due_to script row
 
 -- what is due to the hosts of the addresses from 1 up to the last, in rising order
 unfoldable pub text_to : ScriptView → ℕ → List ℕ
-text_to script last = flat_map (λ address. due_at script (host_row script.roster address)) (range_with_len 1 last)
+text_to script last =
+    flat_map (λ address. due_at script (host_row script.roster address)) (range_with_len 1 last)
 
 -- the text of a script: what is due to each of its hosts
 abbrev pub text : ScriptView → List ℕ

@@ -24,14 +24,23 @@ abbrev pub given_line : Party → Option (List ℕ) → List OutLine
 given_line s None = []
 given_line s (Some message) = From s message ∷ []
 
--- what the event after this past tells a party: it gives no message but the one that it names
+-- what the event after this past tells a party: it gives no message but the one that it names;
+-- calls, and frames that are forged or changed, tell nothing yet
 abbrev pub lines_by : RosterView → Event → List Event → Party → List OutLine
 lines_by roster (Send from to message) past r =
-    if is_same_party (Host from) r then answer_to roster r to message (sent roster r to past) ∷ [] else []
+    if is_same_party (Host from) r
+    then answer_to roster r to message (sent roster r to past) ∷ [] else []
 lines_by roster (Arrive stream message piece at) past r =
-    if is_same_party at r then given_line stream.from (given (sent roster stream.from r) (Arrive stream message piece at) past stream.from r message) else []
+    let e = Arrive stream message piece at in
+    if is_same_party at r
+    then given_line stream.from (given (sent roster stream.from r) e past stream.from r message)
+    else []
 lines_by roster (Carry stream message at) past r =
-    if is_same_party at r then given_line stream.from (given (sent roster stream.from r) (Carry stream message at) past stream.from r message) else []
+    let e = Carry stream message at in
+    if is_same_party at r
+    then given_line stream.from (given (sent roster stream.from r) e past stream.from r message)
+    else []
+lines_by roster _ past r = []
 
 -- all that a past tells a party, in order
 abbrev pub told_by : RosterView → List Event → Party → List OutLine

@@ -53,7 +53,8 @@ fn is_accepted(roster: &Roster, stream: Stream, message: &[u8]) -> bool
 
 /// The message that an event sends in a stream.
 fn sent_by<'a>(roster: &Roster, event: &'a Event, stream: Stream) -> Option<&'a [u8]>
-    ensures { MatchOption result (sent_by roster.now event.now stream.from stream.to ≡ []) (λ message. sent_by roster.now event.now stream.from stream.to ≡ message.now ∷ []) }
+    ensures { MatchOption result (sent_by roster.now event.now stream.from stream.to ≡ [])
+        (λ message. sent_by roster.now event.now stream.from stream.to ≡ message.now ∷ []) }
 {
     match event {
         Event::Send { from, to, message } => {
@@ -63,8 +64,11 @@ fn sent_by<'a>(roster: &Roster, event: &'a Event, stream: Stream) -> Option<&'a 
                 && is_accepted(roster, stream, message);
             if is_sent { Some(message) } else { None }
         }
-        Event::Arrive { .. } => None,
-        Event::Carry { .. } => None,
+        Event::Ask { .. }
+        | Event::Arrive { .. }
+        | Event::Carry { .. }
+        | Event::Forge { .. }
+        | Event::Tamper { .. } => None,
     }
 }
 
@@ -89,7 +93,8 @@ fn message_at<'a>(
     stream: Stream,
     number: u32,
 ) -> Option<&'a [u8]>
-    ensures { option_copied result ≡ slice_get (sent roster.now stream.from stream.to (reverse past.now)) number }
+    ensures { option_copied result ≡ slice_get
+        (sent roster.now stream.from stream.to (reverse past.now)) number }
 {
     let mut found = None;
     let mut count = 0;
@@ -114,7 +119,8 @@ fn piece_count(message: &[u8]) -> usize
 
 /// Whether a message was sent and has a piece of this number.
 fn has_place(roster: &Roster, past: &[Event], stream: Stream, number: u32, piece: usize) -> bool
-    ensures { result ≡ has_place (slice_get (sent roster.now stream.from stream.to (reverse past.now)) number) piece }
+    ensures { result ≡ has_place (slice_get
+        (sent roster.now stream.from stream.to (reverse past.now)) number) piece }
 {
     match message_at(roster, past, stream, number) {
         Some(message) => piece < piece_count(message),
@@ -154,10 +160,10 @@ fn hands(
     number: u32,
     piece: usize,
 ) -> bool
-    ensures { result ≡ has_piece (arrivals_by event.now stream.from stream.to (sent roster.now stream.from stream.to (reverse past.now))) number piece }
+    ensures { result ≡ has_piece (arrivals_by event.now stream.from stream.to
+        (sent roster.now stream.from stream.to (reverse past.now))) number piece }
 {
     match event {
-        Event::Send { .. } => false,
         Event::Arrive {
             stream: handed,
             message,
@@ -176,15 +182,17 @@ fn hands(
             names(*handed, *at, *message, stream, number)
                 && has_place(roster, past, stream, number, piece)
         }
+        Event::Send { .. } | Event::Ask { .. } | Event::Forge { .. } | Event::Tamper { .. } =>
+            false,
     }
 }
 
 /// Whether the event after a past hands over a piece of a later message.
 fn hands_later(roster: &Roster, past: &[Event], event: &Event, stream: Stream, number: u32) -> bool
-    ensures { result ≡ has_later (arrivals_by event.now stream.from stream.to (sent roster.now stream.from stream.to (reverse past.now))) number }
+    ensures { result ≡ has_later (arrivals_by event.now stream.from stream.to
+        (sent roster.now stream.from stream.to (reverse past.now))) number }
 {
     match event {
-        Event::Send { .. } => false,
         Event::Arrive {
             stream: handed,
             message,
@@ -202,12 +210,15 @@ fn hands_later(roster: &Roster, past: &[Event], event: &Event, stream: Stream, n
             names_later(*handed, *at, *message, stream, number)
                 && has_place(roster, past, stream, *message, 0)
         }
+        Event::Send { .. } | Event::Ask { .. } | Event::Forge { .. } | Event::Tamper { .. } =>
+            false,
     }
 }
 
 /// Whether a piece of a message has arrived.
 fn has_arrived(roster: &Roster, past: &[Event], stream: Stream, number: u32, piece: usize) -> bool
-    ensures { result ≡ has_piece (arrivals (sent roster.now stream.from stream.to) (reverse past.now) stream.from stream.to) number piece }
+    ensures { result ≡ has_piece (arrivals (sent roster.now stream.from stream.to)
+        (reverse past.now) stream.from stream.to) number piece }
 {
     let mut arrived = false;
     for k in 0..past.len() {
@@ -218,7 +229,9 @@ fn has_arrived(roster: &Roster, past: &[Event], stream: Stream, number: u32, pie
 
 /// Whether all pieces of a message have arrived.
 fn has_all(roster: &Roster, past: &[Event], stream: Stream, number: u32, message: &[u8]) -> bool
-    ensures { result ≡ has_all (Some message.now) (arrivals (sent roster.now stream.from stream.to) (reverse past.now) stream.from stream.to) number }
+    ensures { result ≡ has_all (Some message.now)
+        (arrivals (sent roster.now stream.from stream.to) (reverse past.now) stream.from stream.to)
+        number }
 {
     let mut all = true;
     for piece in 0..piece_count(message) {
@@ -229,7 +242,8 @@ fn has_all(roster: &Roster, past: &[Event], stream: Stream, number: u32, message
 
 /// Whether a piece of a later message has arrived.
 fn has_later(roster: &Roster, past: &[Event], stream: Stream, number: u32) -> bool
-    ensures { result ≡ has_later (arrivals (sent roster.now stream.from stream.to) (reverse past.now) stream.from stream.to) number }
+    ensures { result ≡ has_later (arrivals (sent roster.now stream.from stream.to)
+        (reverse past.now) stream.from stream.to) number }
 {
     let mut later = false;
     for k in 0..past.len() {
@@ -247,7 +261,10 @@ fn is_given(
     number: u32,
     message: &[u8],
 ) -> bool
-    ensures { result ≡ is_given (Some message.now) (arrivals (sent roster.now stream.from stream.to) (reverse before.now) stream.from stream.to) (arrivals (sent roster.now stream.from stream.to) (reverse now.now) stream.from stream.to) number }
+    ensures { result ≡ is_given (Some message.now)
+        (arrivals (sent roster.now stream.from stream.to) (reverse before.now) stream.from
+        stream.to) (arrivals (sent roster.now stream.from stream.to) (reverse now.now) stream.from
+        stream.to) number }
 {
     has_all(roster, now, stream, number, message)
         && !has_all(roster, before, stream, number, message)
@@ -263,7 +280,9 @@ fn given<'a>(
     number: u32,
 ) -> Option<&'a [u8]>
     requires { k < length events.now }
-    ensures { (e : Event) → slice_get events.now k ≡ Some e → option_copied result ≡ given (sent roster.now stream.from stream.to) e (after events.now k) stream.from stream.to number }
+    ensures { (e : Event) → slice_get events.now k ≡ Some e
+        → option_copied result ≡ given (sent roster.now stream.from stream.to) e
+        (after events.now k) stream.from stream.to number }
 {
     let past = &events[..k];
     let now = &events[..k + 1];
@@ -282,7 +301,8 @@ fn given<'a>(
 /// The answer to a send, after a past.
 fn answer_to(roster: &Roster, past: &[Event], stream: Stream, message: &[u8]) -> OutLine
     requires { length past.now < 2 ^ 32 }
-    ensures { result ≡ answer_to roster.now stream.from stream.to message.now (sent roster.now stream.from stream.to (reverse past.now)) }
+    ensures { result ≡ answer_to roster.now stream.from stream.to message.now
+        (sent roster.now stream.from stream.to (reverse past.now)) }
 {
     let to = stream.to;
     if !is_partner(roster, stream.from, to) {
@@ -308,7 +328,10 @@ fn push_answer(
     reader: Party,
 ) -> Result<(), AllocError>
     requires { length past.now < 2 ^ 32 }
-    ensures { OnOk result (lines.new.items ≡ lines.old.items ++ (if is_same_party (Host from) reader then answer_to roster.now reader to message.now (sent roster.now reader to (reverse past.now)) ∷ [] else [])) }
+    ensures { OnOk result (lines.new.items ≡ lines.old.items
+        ++ (if is_same_party (Host from) reader
+        then answer_to roster.now reader to message.now
+        (sent roster.now reader to (reverse past.now)) ∷ [] else [])) }
 {
     if !is_host(reader, from) {
         return Ok(());
@@ -331,7 +354,10 @@ fn push_given(
     reader: Party,
 ) -> Result<(), AllocError>
     requires { k < length events.now }
-    ensures { (e : Event) → slice_get events.now k ≡ Some e → OnOk result (lines.new.items ≡ lines.old.items ++ (if is_same_party at reader then given_line from (given (sent roster.now from reader) e (after events.now k) from reader number) else [])) }
+    ensures { (e : Event) → slice_get events.now k ≡ Some e
+        → OnOk result (lines.new.items ≡ lines.old.items
+        ++ (if is_same_party at reader then given_line from
+        (given (sent roster.now from reader) e (after events.now k) from reader number) else [])) }
 {
     if !is_same_party(at, reader) {
         return Ok(());
@@ -404,13 +430,15 @@ fn push_lines(
             *at,
             reader,
         ),
+        Event::Ask { .. } | Event::Forge { .. } | Event::Tamper { .. } => Ok(()),
     }
 }
 
 /// What the events of a script tell a host, found by looking over the events anew for each answer:
 /// it keeps no state but the lines, and takes time by the third power of the number of events.
 pub fn told(alloc: Global, script: &Script, host: u8) -> Result<Vec<OutLine>, AllocError>
-    ensures { IfOk result (λ lines. lines.items ≡ told script.now.roster script.now.events (Host host)) }
+    ensures { IfOk result (λ lines. lines.items
+        ≡ told script.now.roster script.now.events (Host host)) }
 {
     let roster = script.roster();
     let events = script.events();

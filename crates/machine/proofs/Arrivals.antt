@@ -59,8 +59,7 @@ in_set script (suc n) s u j i le h =
       | inr earlier ↦
           or_right now before (in_set script n s u j i (omega arith) (record {
             k = h.k;
-            event =
-                h.event;
+            event = h.event;
             earlier = (let lt = h.earlier in omega arith);
             there = h.there;
             hands = h.hands;
@@ -83,8 +82,7 @@ of_set script (suc n) s u j i le h =
             event = there.0;
             earlier = omega arith;
             there = there.1;
-            hands =
-                hands_over (setup_of script) (state_at script n) there.0 s u j i now;
+            hands = hands_over (setup_of script) (state_at script n) there.0 s u j i now;
           }
       | inr before ↦
           (let r : HasArrived script n s u j i = of_set script n s u j i (omega arith) (rw before at both) in
@@ -92,8 +90,7 @@ of_set script (suc n) s u j i le h =
             k = r.k;
             event = r.event;
             earlier = (let lt = r.earlier in omega arith);
-            there =
-                r.there;
+            there = r.there;
             hands = r.hands;
           })
     ]

@@ -71,8 +71,7 @@ at_first m e s u k body messages j i t =
       number = omega (arith, t);
       there = refl;
       piece = omega (arith, t);
-      on =
-          subst (λ n. hands m e s u n body i ≡ true) t.0 t.3;
+      on = subst (λ n. hands m e s u n body i ≡ true) t.0 t.3;
     }
 
 at_later : (m : Setup) (e : Event) (s u : Party) (k : ℕ) (body : List ℕ) (messages : List (List ℕ)) (j i : ℕ)
@@ -84,8 +83,7 @@ at_later m e s u k body messages j i t =
       number = omega arith;
       there = t.there;
       piece = t.piece;
-      on =
-          t.on;
+      on = t.on;
     }
 
 handed_is : (m : Setup) (e : Event) (s u : Party) (k : ℕ) (messages : List (List ℕ)) (j i : ℕ)

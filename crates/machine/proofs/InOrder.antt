@@ -231,9 +231,7 @@ in_order script s r is =
           record {
             numbers = [];
             rising = increasing [] tt;
-            messages =
-                ap (map Some) (none_told (setup_of script) (reverse script.events) s r none);
-            partners =
-                λ apart. refl;
+            messages = ap (map Some) (none_told (setup_of script) (reverse script.events) s r none);
+            partners = λ apart. refl;
           }
     ]

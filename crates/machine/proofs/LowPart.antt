@@ -18,7 +18,7 @@ use Rattle.machine.specs.Low.{place_of, is_within, is_low, low_events, low}
 use Rattle.machine.specs.Sends.{Sending, sending_of, sent_on, answers}
 use Rattle.machine.specs.Files.{CallRow}
 use Rattle.machine.specs.Plan.{reply}
-use Rattle.machine.specs.Machine.{State, Message, parties, handed_of, gives, numbers_given, message_of, given_from, given_to, calls_to, calls_by, is_answered_on, replies, sent_by, after, state, told}
+use Rattle.machine.specs.Machine.{call_row, State, Message, parties, handed_of, gives, numbers_given, message_of, given_from, given_to, calls_to, calls_by, is_answered_on, replies, sent_by, after, state, told}
 use Rattle.machine.proofs.Basics.{bool_cases, same_party}
 use Rattle.machine.proofs.InOrder.{nothing_by}
 use Rattle.machine.proofs.Elsewhere.{none_sent, stays_at}
@@ -69,12 +69,7 @@ call_kept_at : (roster : RosterView) (level : Level) (a : Party) (ls : List Mess
 call_kept_at roster level (Host address) ls low = refl
 call_kept_at roster level (Manager p) [] low = refl
 call_kept_at roster level (Manager p) (l ∷ ls) low =
-    rw low (ap (λ (cs : List CallRow). record {
-      caller = l.from;
-      level = p.0;
-      message =
-          l.body;
-    } ∷ cs) (call_kept_at roster level (Manager p) ls low))
+    rw low (ap (λ (cs : List CallRow). call_row p.0 l ∷ cs) (call_kept_at roster level (Manager p) ls low))
 
 gives_same : (m : Setup) (level : Level) (x y : State) (e : Event) (s u : Party) (j : ℕ)
     → x.sent s u ≡ y.sent s u → x.arrived s u ≡ y.arrived s u → x.given s u ≡ y.given s u
@@ -118,22 +113,10 @@ replies_same_at m level cs (Host address) ls s r low = refl
 replies_same_at m level cs (Manager p) [] s r low = refl
 replies_same_at m level cs (Manager p) (l ∷ ls) s r low =
     let more = replies_same_at m level cs (Manager p) ls s r low in
-    elim (bool_cases (is_answered_on m.roster s r (record { caller = l.from; level = p.0; message = l.body }))) [
+    elim (bool_cases (is_answered_on m.roster s r (call_row p.0 l))) [
       | inl on ↦
-          rw (
-            on,
-            reply_low m level cs (record {
-              caller = l.from;
-              level = p.0;
-              message =
-                  l.body;
-            }) low,
-          ) (ap (λ (ts : List (List ℕ)). reply_text (reply m cs (record {
-            caller = l.from;
-            level =
-                p.0;
-            message = l.body;
-          })) ∷ ts) more)
+          rw (on, reply_low m level cs (call_row p.0 l) low)
+          (ap (λ (ts : List (List ℕ)). reply_text (reply m cs (call_row p.0 l)) ∷ ts) more)
       | inr off ↦ rw off more
     ]
 
@@ -215,8 +198,7 @@ agrees m level [] = record {
   sent = λ s r low. refl;
   arrived = λ s r low. refl;
   given = λ s r low. refl;
-  calls =
-      refl;
+  calls = refl;
   told = λ r low. refl;
 }
 agrees m level (e ∷ past) = elim (bool_cases (is_low m.roster level (place_of e))) [

@@ -36,8 +36,7 @@ low_setup level m = record {
   keys = m.keys;
   guard = m.guard;
   sealed = m.sealed;
-  rows =
-      low_rows m.roster level m.rows;
+  rows = low_rows m.roster level m.rows;
   ahead = m.ahead;
 }
 

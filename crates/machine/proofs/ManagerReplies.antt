@@ -29,8 +29,7 @@ frame_still m x e s u j i bytes is =
     record {
       body = is.body;
       sent = found_still (x.sent s u) (sent_by m x e s u) j is.body is.sent;
-      piece =
-          is.piece;
+      piece = is.piece;
       same = is.same;
     }
 

@@ -38,11 +38,11 @@ pub given_by_arrive : (m : Setup) (x : State) (stream : Stream) (j i : ℕ) (at 
     → given_to m x (Arrive stream j i at) at
     ≡ given_if (gives m x (Arrive stream j i at) stream.from at j)
     (message_of stream.from (x.sent stream.from at) j)
-given_by_arrive m x stream j i at apart known = by_one m x (Arrive stream j i at) stream.from at j apart known
-    (λ s' j' on. (let h = (gives_what_it_hands m x (Arrive stream j i at) s' at j' on).1.hands in
-    let t =
-    both (is_between stream at s' at) (j == j') (both (is_between stream at s' at
-    && j == j') (i == (gives_what_it_hands m x (Arrive stream j i at) s' at j' on).0) h).0 in
+given_by_arrive m x stream j i at apart known =
+    by_one m x (Arrive stream j i at) stream.from at j apart known (λ s' j' on.
+    (let piece = gives_what_it_hands m x (Arrive stream j i at) s' at j' on in
+    let of_message = both (is_between stream at s' at && j == j') (i == piece.0) piece.1.hands in
+    let t = both (is_between stream at s' at) (j == j') of_message.0 in
     (sym (from_of stream at s' at t.0), sym (same_number j j' t.1))))
 
 pub given_by_carry : (m : Setup) (x : State) (stream : Stream) (j : ℕ) (at : Party) → Apart (parties m.roster)
@@ -50,8 +50,8 @@ pub given_by_carry : (m : Setup) (x : State) (stream : Stream) (j : ℕ) (at : P
     → given_to m x (Carry stream j at) at
     ≡ given_if (gives m x (Carry stream j at) stream.from at j)
     (message_of stream.from (x.sent stream.from at) j)
-given_by_carry m x stream j at apart known = by_one m x (Carry stream j at) stream.from at j apart known
-    (λ s' j' on. (let t =
-    both (is_between stream at s' at) (j == j')
-    (gives_what_it_hands m x (Carry stream j at) s' at j' on).1.hands in
+given_by_carry m x stream j at apart known =
+    by_one m x (Carry stream j at) stream.from at j apart known (λ s' j' on.
+    (let piece = gives_what_it_hands m x (Carry stream j at) s' at j' on in
+    let t = both (is_between stream at s' at) (j == j') piece.1.hands in
     (sym (from_of stream at s' at t.0), sym (same_number j j' t.1))))

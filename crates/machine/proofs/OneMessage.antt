@@ -10,7 +10,7 @@ use Rattle.events.specs.declared.event.Stream.{Stream}
 use Rattle.events.specs.declared.event.Event.{Event}
 use Rattle.events.specs.declared.event.Event.TheVariants.{Send, Ask, Arrive, Carry, Forge, Tamper}
 use Rattle.machine.specs.Setup.{Setup}
-use Rattle.machine.specs.Machine.{State, piece_frame, is_between, gives, Message, message_of, given_from, given_to, parties, calls_to}
+use Rattle.machine.specs.Machine.{call_row, State, piece_frame, is_between, gives, Message, message_of, given_from, given_to, parties, calls_to}
 use Rattle.machine.specs.FalseBytes.{IsSentFrame}
 use Rattle.machine.specs.Laws.{HandsOver, OneFrame, FramesApart}
 use Rattle.machine.proofs.Basics.{none_passes, bool_cases, both, same_number, same_party, own_party}
@@ -51,8 +51,7 @@ forged m x at bytes s u j i h =
       body = h.body;
       sent = h.sent;
       piece = h.piece;
-      same =
-          (bytes_eq-Decides bytes (piece_frame m s u j h.body i)).0 t.1;
+      same = (bytes_eq-Decides bytes (piece_frame m s u j h.body i)).0 t.1;
     })
 
 -- an event hands over pieces of one message alone
@@ -159,8 +158,7 @@ is_forged m x bytes s u j i h =
       body = h.body;
       sent = h.sent;
       piece = h.piece;
-      hands =
-          rw (own_party u) ((bytes_eq-Decides bytes (piece_frame m s u j h.body i)).1 h.same);
+      hands = rw (own_party u) ((bytes_eq-Decides bytes (piece_frame m s u j h.body i)).1 h.same);
     }
 
 filter_cases : (P : ℕ → Bool) (xs : List ℕ) → (filter P xs ≡ []) ⊎ ((k : ℕ) × (P k ≡ true))
@@ -187,8 +185,7 @@ given_cases m x e u (t ∷ ts) = elim (filter_cases (gives m x e t u) (range_wit
         inr (record {
           from = later.from;
           number = later.number;
-          there =
-              or_right (is_same_party t later.from) (is_in later.from ts) later.there;
+          there = or_right (is_same_party t later.from) (is_in later.from ts) later.there;
           gives = later.gives;
         })
   ]
@@ -211,14 +208,5 @@ pub one_call_or_none : (m : Setup) (x : State) (e : Event) (u : Party) → OneFr
 one_call_or_none m x e (Host address) one apart = inl refl
 one_call_or_none m x e (Manager p) one apart = elim (one_or_none m x e (Manager p) one apart) [
   | inl none ↦ inl (ap (calls_to (Manager p)) none)
-  | inr some ↦
-      inr (
-        record {
-          caller = some.0.from;
-          level = p.0;
-          message =
-              some.0.body;
-        },
-        ap (calls_to (Manager p)) some.1,
-      )
+  | inr some ↦ inr (call_row p.0 some.0, ap (calls_to (Manager p)) some.1)
 ]

@@ -38,8 +38,7 @@ opens_at s (Some c) o level name number found count (Some v) version content has
     record {
       question = question_for level name number v;
       asks = is;
-      same =
-          ap (λ (p : ℕ × List ℕ). p.0) same;
+      same = ap (λ (p : ℕ × List ℕ). p.0) same;
       holds = ap (λ (p : ℕ × List ℕ). Some p.1) same;
     }
 opens_at s opened o level name number found count None version content has is h = cc
@@ -147,8 +146,7 @@ written_as : (level : ℕ) (before : List CallRow) (name : List ℕ) (block vers
     → written (files level before).writes version ≡ Some w → w ≡ record {
       name = name;
       block = block;
-      content =
-          w.content;
+      content = w.content;
     }
 written_as level before name block version None w there at_block is = cc
 written_as level before name block version (Some vs) w there at_block is =
@@ -157,8 +155,7 @@ written_as level before name block version (Some vs) w there at_block is =
     same ∙ ap (λ (c : List ℕ). record {
       name = name;
       block = block;
-      content =
-          c;
+      content = c;
     }) (sym (ap (λ (x : Write). x.content) same))
 
 pub reads_down : (m : Setup) (before : List CallRow) (c : CallRow) (version : ℕ) (content : List ℕ)

@@ -112,11 +112,14 @@ given_from m x e u s = map (message_of s (x.sent s u)) (numbers_given m x e s u)
 abbrev pub given_to : Setup → State → Event → Party → List Message
 given_to m x e u = flat_map (given_from m x e u) (parties m.roster)
 
--- a message that is given to a manager unit is a call
+-- a message that is given to the manager unit of a level, as a call
+abbrev pub call_row : ℕ → Message → CallRow
+call_row level l = record { caller = l.from; level = level; message = l.body }
+
+-- the calls among messages that are given to a party
 abbrev pub calls_to : Party → List Message → List CallRow
 calls_to (Host address) messages = []
-calls_to (Manager p) messages =
-    map (λ l. record { caller = l.from; level = p.0; message = l.body }) messages
+calls_to (Manager p) messages = map (call_row p.0) messages
 
 -- the calls that e gives, at the unit where it happens
 abbrev pub calls_by : Setup → State → Event → List CallRow

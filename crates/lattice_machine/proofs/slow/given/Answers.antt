@@ -7,10 +7,12 @@ pub returns-then-is_given : goal.returns-then-is_given
 returns-then-is_given c = λ e is.
     let s = c.args.stream.from in
     let u = c.args.stream.to in
-    given_if (sent c.args.roster.now s u) c.args.events.now c.args.k e s u c.args.number c.in-Some.message.now _ is c.in-Some.ensures (sym c.is_given.ensures ∙ c.if-is_given.true)
+    given_if (sent c.args.roster.now s u) c.args.events.now c.args.k e s u c.args.number
+    c.in-Some.message.now _ is c.in-Some.ensures (sym c.is_given.ensures ∙ c.if-is_given.true)
 
 pub returns-else-is_given : goal.returns-else-is_given
 returns-else-is_given c = λ e is.
     let s = c.args.stream.from in
     let u = c.args.stream.to in
-    given_if (sent c.args.roster.now s u) c.args.events.now c.args.k e s u c.args.number c.in-Some.message.now _ is c.in-Some.ensures (sym c.is_given.ensures ∙ c.if-is_given.false)
+    given_if (sent c.args.roster.now s u) c.args.events.now c.args.k e s u c.args.number
+    c.in-Some.message.now _ is c.in-Some.ensures (sym c.is_given.ensures ∙ c.if-is_given.false)

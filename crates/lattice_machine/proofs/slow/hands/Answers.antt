@@ -8,11 +8,15 @@ returns-then-names-2 c =
     let s = c.args.stream.from in
     let u = c.args.stream.to in
     let messages = sent c.args.roster.now s u (reverse c.args.past.now) in
-    c.has_place-then-names-2.ensures ∙ carried_named c.args.event.now c.in-Carry.handed c.in-Carry.message c.in-Carry.at s u messages c.args.number c.args.piece c.in-Carry.is (sym c.names-in-Carry.ensures ∙ c.if-names-2.true)
+    c.has_place-then-names-2.ensures ∙ carried_named c.args.event.now c.in-Carry.handed
+    c.in-Carry.message c.in-Carry.at s u messages c.args.number c.args.piece c.in-Carry.is
+    (sym c.names-in-Carry.ensures ∙ c.if-names-2.true)
 
 pub returns-else-names-2 : goal.returns-else-names-2
 returns-else-names-2 c =
     let s = c.args.stream.from in
     let u = c.args.stream.to in
     let messages = sent c.args.roster.now s u (reverse c.args.past.now) in
-    c.if-names-2.false ∙ carried_other c.args.event.now c.in-Carry.handed c.in-Carry.message c.in-Carry.at s u messages c.args.number c.args.piece c.in-Carry.is (sym c.names-in-Carry.ensures ∙ c.if-names-2.false)
+    c.if-names-2.false ∙ carried_other c.args.event.now c.in-Carry.handed c.in-Carry.message
+    c.in-Carry.at s u messages c.args.number c.args.piece c.in-Carry.is
+    (sym c.names-in-Carry.ensures ∙ c.if-names-2.false)

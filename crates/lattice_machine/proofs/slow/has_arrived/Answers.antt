@@ -16,8 +16,13 @@ loop-k-preserved c =
     elim c.if-arrived.branch [
       | then-arrived w ↦
           let there = event_there past k (omega arith) in
-          still_found _ _ _ _ _ c.loop-k.invariant (arrived_more messages past k there.0 s u c.args.number c.args.piece there.1) w.if-arrived.true w.arrived-is
+          still_found _ _ _ _ _ c.loop-k.invariant
+          (arrived_more messages past k there.0 s u c.args.number c.args.piece there.1)
+          w.if-arrived.true w.arrived-is
       | else-arrived w ↦
           let e = w.index-past-k.result in
-          newly_found _ _ _ _ _ c.loop-k.invariant (arrived_more messages past k e s u c.args.number c.args.piece (slice_get_read past _ k e refl (omega arith) w.index-past-k.is)) w.if-arrived.false (w.arrived-is ∙ w.hands-arrived.ensures)
+          newly_found _ _ _ _ _ c.loop-k.invariant
+          (arrived_more messages past k e s u c.args.number c.args.piece
+          (slice_get_read past _ k e refl (omega arith) w.index-past-k.is)) w.if-arrived.false
+          (w.arrived-is ∙ w.hands-arrived.ensures)
     ]

@@ -16,8 +16,13 @@ loop-k-preserved c =
     elim c.if-later.branch [
       | then-later w ↦
           let there = event_there past k (omega arith) in
-          still_found _ _ _ _ _ c.loop-k.invariant (later_more messages past k there.0 s u c.args.number there.1) w.if-later.true w.later-is
+          still_found _ _ _ _ _ c.loop-k.invariant
+          (later_more messages past k there.0 s u c.args.number there.1) w.if-later.true
+          w.later-is
       | else-later w ↦
           let e = w.index-past-k.result in
-          newly_found _ _ _ _ _ c.loop-k.invariant (later_more messages past k e s u c.args.number (slice_get_read past _ k e refl (omega arith) w.index-past-k.is)) w.if-later.false (w.later-is ∙ w.hands_later-later.ensures)
+          newly_found _ _ _ _ _ c.loop-k.invariant
+          (later_more messages past k e s u c.args.number
+          (slice_get_read past _ k e refl (omega arith) w.index-past-k.is)) w.if-later.false
+          (w.later-is ∙ w.hands_later-later.ensures)
     ]

@@ -6,4 +6,6 @@ use Rattle.lattice_machine.specs.Laws.{after}
 use Rattle.lattice_machine.proofs.slow.has_later.Given as goal
 
 abbrev pub invariant-loop-k : goal.invariant-loop-k
-invariant-loop-k l = l.later ≡ has_later (arrivals (sent l.roster l.stream.from l.stream.to) (after l.past l.k) l.stream.from l.stream.to) l.number
+invariant-loop-k l = l.later ≡ has_later
+    (arrivals (sent l.roster l.stream.from l.stream.to) (after l.past l.k) l.stream.from
+    l.stream.to) l.number

@@ -20,8 +20,12 @@ returns-in-Arrive c =
     let r = c.args.reader in
     let is = slice_get_read events _ k e refl c.requires.within c.index-events-k.is in
     on_ok_weaker c.push_given.result
-    (λ (h : c.push_given.new.lines.items ≡ c.args.lines.now.items ++ (if is_same_party c.in-Arrive.at r then given_line from (given (sent roster from r) e (after events k) from r c.in-Arrive.message) else [])).
-    told_at_arrival roster events k e c.in-Arrive.stream c.in-Arrive.message c.in-Arrive.piece c.in-Arrive.at r c.args.lines.now.items _ is c.in-Arrive.is c.requires.before h)
+    (λ (h : c.push_given.new.lines.items ≡ c.args.lines.now.items
+    ++ (if is_same_party c.in-Arrive.at r
+    then given_line from (given (sent roster from r) e (after events k) from r
+    c.in-Arrive.message) else [])).
+    told_at_arrival roster events k e c.in-Arrive.stream c.in-Arrive.message c.in-Arrive.piece
+    c.in-Arrive.at r c.args.lines.now.items _ is c.in-Arrive.is c.requires.before h)
     (c.push_given.ensures e is)
 
 pub returns-in-Carry : goal.returns-in-Carry
@@ -34,6 +38,10 @@ returns-in-Carry c =
     let r = c.args.reader in
     let is = slice_get_read events _ k e refl c.requires.within c.index-events-k.is in
     on_ok_weaker c.push_given-in-Carry.result
-    (λ (h : c.push_given-in-Carry.new.lines.items ≡ c.args.lines.now.items ++ (if is_same_party c.in-Carry.at r then given_line from (given (sent roster from r) e (after events k) from r c.in-Carry.message) else [])).
-    told_at_carry roster events k e c.in-Carry.stream c.in-Carry.message c.in-Carry.at r c.args.lines.now.items _ is c.in-Carry.is c.requires.before h)
+    (λ (h : c.push_given-in-Carry.new.lines.items ≡ c.args.lines.now.items
+    ++ (if is_same_party c.in-Carry.at r
+    then given_line from (given (sent roster from r) e (after events k) from r
+    c.in-Carry.message) else [])).
+    told_at_carry roster events k e c.in-Carry.stream c.in-Carry.message c.in-Carry.at r
+    c.args.lines.now.items _ is c.in-Carry.is c.requires.before h)
     (c.push_given-in-Carry.ensures e is)
