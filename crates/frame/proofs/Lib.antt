@@ -1,2 +1,5 @@
+mod Bytes
 mod Cutting
 mod Joining
+mod Spelling
+mod Unsealing

@@ -1,2 +1,3 @@
 pub mod Pieces
-pub mod PieceInside
+pub mod Frames
+pub mod inside

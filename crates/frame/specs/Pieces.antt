@@ -1,5 +1,6 @@
 -- The pieces of a message.
-use Rattle.std.specs.Prelude.{ℕ, ◌≡◌, ◌+◌, ◌-◌, ◌*◌, ◌/◌, ◌<◌, ◌≤◌, List, ◌++◌, length, take, drop, replicate, max}
+use Rattle.std.specs.Prelude.{ℕ, ◌≡◌, ◌+◌, ◌-◌, ◌*◌, ◌/◌, ◌^◌, ◌<◌, ◌≤◌, List, ◌++◌, length, take, drop, replicate, max}
+use Rattle.seal_core.specs.Blocks.{AreBytes}
 
 -- how many pieces of 88 bytes a message of n bytes has, one at least
 unfoldable pub piece_count : ℕ → ℕ
@@ -45,12 +46,18 @@ piece_of from to partition message body i = record {
   payload = padded (piece_bytes body i);
 }
 
--- every piece but the last is full; the last has a byte, unless it is the only one
+-- Every field is in its range. Every piece but the last is full; the last has a byte, unless it is
+-- the only one. Zeros stand behind the used bytes.
 pub record IsPiece (piece : PieceView) : Type 0 where
+  pub from : piece.from < 256
+  pub to : piece.to < 256
+  pub message : piece.message < 2 ^ 32
+  pub partition : piece.partition < 256
   pub within : piece.piece ≤ piece.last
   pub last : piece.last ≤ 63
   pub full : piece.piece < piece.last → piece.used ≡ 88
   pub some : 0 < piece.last → 0 < piece.used
   pub used : piece.used ≤ 88
   pub wide : length piece.payload ≡ 88
+  pub bytes : AreBytes piece.payload
   pub zeros : drop piece.used piece.payload ≡ replicate (88 - piece.used) 0

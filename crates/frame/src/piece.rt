@@ -1,5 +1,7 @@
-ghost use Rattle.std.specs.Prelude.{◌≡◌, ◌<◌, ◌≤◌, length};
-ghost use Rattle.frame.specs.Pieces.{piece_count, piece_bytes, padded, piece_of, IsPiece};
+ghost use Rattle.std.specs.Prelude.{◌≡◌, ◌<◌, ◌≤◌, ◌↔◌, IsTrue, Some, length, replicate};
+ghost use Rattle.frame.specs.Pieces.{PieceView, piece_count, piece_bytes, padded, piece_of, IsPiece};
+ghost use Rattle.frame.specs.Frames.{plain_of, Spells};
+ghost use Rattle.frame.specs.inside.Rules.{Fits, KeepsRules};
 
 use std::marker::Model;
 
@@ -8,6 +10,9 @@ pub const MESSAGE_LIMIT: usize = 5632;
 
 /// The bytes of a piece that is full.
 pub const PIECE_SIZE: usize = 88;
+
+/// How many bytes of a plain text stand before the payload.
+const FIELDS: usize = 16;
 
 /// A part of a message, as it goes from a sender to a receiver of one partition.
 #[derive(Clone, Copy, Debug, PartialEq, Eq)]
@@ -27,7 +32,7 @@ impl Model for Piece {
 
     ghost Value = { PieceView };
 
-    ghost use Rattle.frame.specs.PieceInside.{fields_of, inside_of};
+    ghost use Rattle.frame.specs.inside.Fields.{fields_of, inside_of};
 
     ghost view = { fields_of };
 
@@ -106,6 +111,7 @@ impl Piece {
 pub fn pieces(len: usize) -> u8
     requires { len ≤ MESSAGE_LIMIT }
     ensures count { result ≡ piece_count len }
+    ensures some { 0 < result }
     ensures few { result ≤ 64 }
 {
     (len.div_ceil(PIECE_SIZE) as u8).max(1)
@@ -148,4 +154,80 @@ pub fn cut(from: u8, to: u8, partition: u8, message: u32, body: &[u8], i: u8) ->
         partition,
         payload: padded(bytes),
     }
+}
+
+/// Writes the plain text of a piece.
+pub fn write_plain(piece: &Piece, out: &mut [u8; 104])
+    ensures { out.new ≡ plain_of piece.now }
+{
+    let [first, second, third, fourth] = piece.message.to_be_bytes();
+    out[..FIELDS].copy_from_slice(&[
+        piece.from,
+        piece.to,
+        first,
+        second,
+        third,
+        fourth,
+        piece.piece,
+        piece.last,
+        piece.used,
+        piece.partition,
+        0,
+        0,
+        0,
+        0,
+        0,
+        0,
+    ]);
+    out[FIELDS..].copy_from_slice(&piece.payload);
+}
+
+/// Whether a piece at this place may carry so many bytes.
+fn fits(place: u8, last: u8, used: u8) -> bool
+    ensures { IsTrue result ↔ Fits place last used }
+{
+    let is_filled = if place < last {
+        used == 88
+    } else {
+        used <= 88 && (used > 0 || last == 0)
+    };
+    place <= last && last <= 63 && is_filled
+}
+
+fn are_zeros(bytes: &[u8]) -> bool
+    ensures { IsTrue result ↔ (bytes.now ≡ replicate (length bytes.now) 0) }
+{
+    bytes.iter().all(|byte| *byte == 0)
+}
+
+/// Whether a plain text keeps the rules of a piece.
+fn keeps_rules(plain: &[u8; 104]) -> bool
+    ensures { IsTrue result ↔ KeepsRules plain.now }
+{
+    let used = plain[8];
+    fits(plain[6], plain[7], used)
+        && are_zeros(&plain[10..FIELDS])
+        && are_zeros(&plain[FIELDS + usize::from(used)..])
+}
+
+/// The piece that a plain text spells.
+pub fn read_plain(plain: &[u8; 104]) -> Option<Piece>
+    ensures { (x : PieceView) → (result ≡ Some x) ↔ Spells plain.now x }
+{
+    if !keeps_rules(plain) {
+        return None;
+    }
+    let message = u32::from_be_bytes([plain[2], plain[3], plain[4], plain[5]]);
+    let mut payload = [0; PIECE_SIZE];
+    payload.copy_from_slice(&plain[FIELDS..]);
+    Some(Piece {
+        from: plain[0],
+        to: plain[1],
+        message,
+        piece: plain[6],
+        last: plain[7],
+        used: plain[8],
+        partition: plain[9],
+        payload,
+    })
 }

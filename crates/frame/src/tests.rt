@@ -1,4 +1,8 @@
-use crate::{MESSAGE_LIMIT, PIECE_SIZE, Piece, cut, pieces};
+use crate::{
+    MESSAGE_LIMIT, Opening, PIECE_SIZE, Piece, cut, open_frame, pieces, read_plain, seal_frame,
+    write_plain,
+};
+use seal_core::{ClearSeal, KeyPair, Seal};
 use std::process::Abort;
 use std::test::Fail;
 
@@ -98,4 +102,88 @@ fn pieces_are_parts_in_order(rt: HostRuntime) -> Result<(), Fail> {
         expect_piece(&rt, &cut(5, 6, 1, 9, &body, i), (i, 2), used, i + 1);
     }
     Ok(())
+}
+
+/// The keys of the first partition under clear sealing.
+const KEYS: KeyPair = KeyPair {
+    main: [0; 8],
+    check: [1; 8],
+};
+
+/// The frame of one piece of two bytes, from host 1 to host 2 in the first partition.
+fn short_frame() -> [u8; 128] {
+    let mut frame = [0; 128];
+    frame[..4].copy_from_slice(&[0x44, 0x53, 1, 0]);
+    frame[8..10].copy_from_slice(&[1, 2]);
+    frame[16..18].copy_from_slice(&[1, 2]);
+    frame[24] = 2;
+    frame[32..34].copy_from_slice(b"hi");
+    frame[120..].copy_from_slice(&[0x6b, 0x68, 1, 1, 1, 1, 1, 1]);
+    frame
+}
+
+/// Seals through the bound.
+fn sealed<S: Seal>(seal: &S, piece: &Piece) -> [u8; 128] {
+    let mut frame = [0xff; 128];
+    seal_frame(seal, &KEYS, piece, &mut frame);
+    frame
+}
+
+/// Opens through the bound.
+fn opened<S: Seal>(seal: &S, partition: u8, frame: &[u8; 128]) -> Opening {
+    open_frame(seal, &KEYS, partition, frame)
+}
+
+#[test]
+fn plain_texts_both_ways(rt: HostRuntime) {
+    assert_eq!(rt; pieces(89), 2);
+    let mut plain = [0xff; 104];
+    let piece = cut(250, 0, 15, 0x0102_0304, &[7; 89], 1);
+    write_plain(&piece, &mut plain);
+    assert!(rt; plain[..17] == [250, 0, 1, 2, 3, 4, 1, 1, 1, 15, 0, 0, 0, 0, 0, 0, 7][..]);
+    assert!(rt; plain[17..].iter().all(|byte| *byte == 0));
+    assert!(rt; read_plain(&plain) == Some(piece));
+    for at in [6, 7, 8, 10, 15, 17, 103] {
+        let mut other = plain;
+        other[at] = 255;
+        assert!(rt; read_plain(&other) == None, "at byte {at}");
+    }
+}
+
+#[test]
+fn frames_both_ways(rt: HostRuntime) {
+    assert_eq!(rt; pieces(2), 1);
+    let piece = cut(1, 2, 0, 0, b"hi", 0);
+    assert!(rt; sealed(&ClearSeal, &piece) == short_frame());
+    assert!(rt; opened(&ClearSeal, 0, &short_frame()) == Opening::Opened(piece));
+}
+
+/// Each way in which a frame holds no piece. The same change in two blocks goes unseen by the
+/// clear sealing.
+#[test]
+fn frames_without_a_piece(rt: HostRuntime) {
+    assert_eq!(rt; pieces(2), 1);
+    assert!(rt; opened(&ClearSeal, 1, &short_frame()) == Opening::Foreign);
+    let rows: [(&[usize], Opening); 5] = [
+        (&[0], Opening::Foreign),
+        (&[32], Opening::Closed),
+        (&[32, 40], Opening::Malformed),
+        (&[8, 120], Opening::Malformed),
+        (&[8, 16], Opening::Opened(cut(0, 2, 0, 0, b"hi", 0))),
+    ];
+    for (edits, expected) in rows {
+        let mut frame = short_frame();
+        for at in edits {
+            frame[*at] ^= 1;
+        }
+        assert!(rt; opened(&ClearSeal, 0, &frame) == expected, "at {edits:?}");
+    }
+}
+
+fn is_shared<T: Send + Sync>(_value: &T) {}
+
+#[test]
+fn pieces_may_go_to_other_threads(rt: HostRuntime) {
+    assert_eq!(rt; pieces(2), 1);
+    is_shared(&cut(1, 2, 0, 0, b"hi", 0));
 }

@@ -18,5 +18,6 @@ returns-clause-bytes c =
     let rest = drop (88 * c.args.i) c.args.body.now in
     let long : length rest ≤ n = omega (arith, length-drop (88 * c.args.i) c.args.body.now) in
     let whole : take n rest ≡ rest = take_all n rest long in
-    let end : c.min.result ≡ min 88 (length rest) = c.min.ensures ∙ ap (λ (xs : List ℕ). min (length xs) 88) whole ∙ omega arith in
+    let end : c.min.result ≡ min 88 (length rest) =
+    c.min.ensures ∙ ap (λ (xs : List ℕ). min (length xs) 88) whole ∙ omega arith in
     ap (λ (xs : List ℕ). take c.min.result xs) whole ∙ ap (λ k. take k rest) end ∙ take_min 88 rest

@@ -1,3 +1,4 @@
+-- A piece as it is kept, and as it is seen.
 use Rattle.frame.specs.declared.piece.Piece.TheInside.{Inside}
 use Rattle.frame.specs.Pieces.{PieceView}
 
