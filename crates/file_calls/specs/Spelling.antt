@@ -1,5 +1,5 @@
 -- How calls and replies are spelled in messages.
-use Rattle.std.specs.Prelude.{ℕ, zero, suc, ◌^◌, List, [], ◌∷◌, ◌++◌, length, take, drop, Bool, true, ◌&&◌, nat_lt, nat_le, Option, find, slice_index}
+use Rattle.std.specs.Prelude.{ℕ, zero, suc, ◌^◌, ◌≤◌, List, [], ◌∷◌, ◌++◌, length, take, drop, Bool, true, ◌&&◌, nat_lt, nat_le, Option, find, slice_index}
 use Rattle.std.specs.List.{flat_map}
 use Rattle.std.specs.Int.{w16, w64, to_be_bytes, from_be_bytes}
 use Rattle.std.specs.Str.{bytes_eq}
@@ -69,6 +69,28 @@ is_reply (Names names) = is_name_list names
 is_reply Bad = true
 is_reply (Block version count content) = is_version version && is_count count && is_content content
 is_reply (Past count) = is_count count
+
+-- what the types leave open: a block's number is at most 63, and a number of blocks is 1 to 64
+abbrev pub HasBlock : Call → Type 0
+HasBlock (Put name content) = Unit {0}
+HasBlock (Get level name) = Unit {0}
+HasBlock (ListNames level) = Unit {0}
+HasBlock (Remove name) = Unit {0}
+HasBlock (Append name content) = Unit {0}
+HasBlock (GetBlock level name block) = block ≤ 63
+
+abbrev pub HasCount : Reply → Type 0
+HasCount (Done version) = Unit {0}
+HasCount (Bytes version content) = Unit {0}
+HasCount Refused = Unit {0}
+HasCount Missing = Unit {0}
+HasCount (Damaged version) = Unit {0}
+HasCount Full = Unit {0}
+HasCount Removed = Unit {0}
+HasCount (Names names) = Unit {0}
+HasCount Bad = Unit {0}
+HasCount (Block version count content) = (1 ≤ count) × (count ≤ 64)
+HasCount (Past count) = (1 ≤ count) × (count ≤ 64)
 
 -- whether the bytes are the spelling of the call
 abbrev pub is_call_text : List ℕ → Call → Bool

@@ -198,6 +198,16 @@ impl NameList {
         Ok(())
     }
 
+    /// Whether a name is greater than the last one.
+    pub(crate) fn is_below(&self, name: &Name) -> bool
+        ensures { result ≡ are_rising (self.now ++ name.now ∷ []) }
+    {
+        match self.names.last() {
+            Some(last) => last < name,
+            None => true,
+        }
+    }
+
     pub fn names(&self) -> &[Name]
         ensures names { result.now ≡ self.now }
         ensures list { is_name_list self.now ≡ true }
