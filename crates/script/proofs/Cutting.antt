@@ -2,8 +2,8 @@
 use Rattle.std.proofs.Common.{None, ◌≡◌, ℕ, ◌+◌, ◌-◌, ◌<◌, ◌≤◌, false, eqb, List, [], ◌∷◌, ◌++◌, length, take, drop, get_or, refl, sym, ap, ◌∙◌, arith}
 use Rattle.std.specs.List.{All, slice_split}
 use Rattle.std.proofs.lemmas.Bool.{eq-eqb}
-use Rattle.script.specs.declared.line.Line.{Line}
-use Rattle.script.specs.Reading.{as_one, as_two, as_three, nothing, words}
+use Rattle.script.specs.Lines.{Line}
+use Rattle.script.specs.inside.Readers.{as_one, as_two, as_three, nothing, words}
 use Rattle.std.proofs.lemmas.List.{take-append-drop, drop_more, take_rest, take_all}
 use Rattle.std.proofs.lemmas.List.Splits.{slice_split_at, slice_split_none, length-slice_split}
 

@@ -1,6 +1,6 @@
 use Rattle.std.proofs.Common.{◌≡◌, ℕ, zero, suc, ◌^◌, pow-suc, ◌+◌, ◌-◌, ◌*◌, ◌<◌, ◌≤◌, List, [], ◌∷◌, length, drop, get_or, arith}
 use Rattle.std.proofs.lemmas.List.{drop_more}
-use Rattle.script.specs.Reading.{value_on}
+use Rattle.script.specs.inside.Readers.{value_on}
 
 -- digits never make a number less
 pub value_on_le : (n : ℕ) (digits : List ℕ) → n ≤ value_on n digits

@@ -10,7 +10,7 @@ use Rattle.hex.specs.declared.error.FromHexError.{FromHexError}
 use Rattle.hex.specs.Hex.{lower_digits, encode_with, encode_lower, hex_digit_value, digit_or_error, value_at, pair_value, decode_pairs, decode_of, IsBytes, ◌>>=◌}
 use Rattle.hex.proofs.HexLemmas.{decode_of-encode_lower, decode_of-even, decode_of-ok, length-encode_with}
 use Rattle.events.specs.Words.{hex_word}
-use Rattle.script.specs.Reading.{hex_of, is_lower_digit, decoded}
+use Rattle.script.specs.inside.Readers.{hex_read, is_lower_digit, decoded}
 use Rattle.script.proofs.Tools.{both, guard_other, some_same, is_ink, IsInk, weaker}
 
 bind_ok : {A B : Type 0} (r : Result A FromHexError) (f : A → Result B FromHexError) (y : B) → (r >>= f) ≡ Ok y → (x : A) × (r ≡ Ok x) × (f x ≡ Ok y)
@@ -103,8 +103,8 @@ long_hex : (bytes : List ℕ) → 0 < length bytes → hex_word bytes ≡ encode
 long_hex [] h = absurd (omega arith)
 long_hex (byte ∷ bytes) h = refl
 
-pub hex_takes : (word bytes : List ℕ) → hex_of word ≡ Some bytes → (word ≡ hex_word bytes) × IsBytes bytes
-unfolding hex_of
+pub hex_takes : (word bytes : List ℕ) → hex_read word ≡ Some bytes → (word ≡ hex_word bytes) × IsBytes bytes
+unfolding hex_read
 hex_takes word bytes e =
     elim (cases_Bool (bytes_eq word (codes "-"))) [
       | inl is ↦
@@ -129,8 +129,8 @@ unequal a b ne =
       | inr not ↦ not
     ]
 
-pub hex_again : (bytes : List ℕ) → IsBytes bytes → hex_of (hex_word bytes) ≡ Some bytes
-unfolding hex_of
+pub hex_again : (bytes : List ℕ) → IsBytes bytes → hex_read (hex_word bytes) ≡ Some bytes
+unfolding hex_read
 hex_again [] fits = refl
 hex_again (byte ∷ bytes) fits =
     let len = length-encode_with lower_digits (byte ∷ bytes) in

@@ -8,7 +8,7 @@ use Rattle.std.proofs.lemmas.Bool.Decides.{nat_tests}
 use Rattle.std.proofs.lemmas.List.{append-nil}
 use Rattle.std.proofs.lemmas.Slice.Eq.{bytes_eq-Decides}
 use Rattle.script.specs.Spelling.{letters, cats_word}
-use Rattle.script.specs.Reading.{rising, whole, cats_of}
+use Rattle.script.specs.inside.Readers.{rising, whole, cats_read}
 use Rattle.script.proofs.Tools.{some_same, IsInk}
 
 no_letters : (n letter : ℕ) → letters n letter 0 ++ [] ≡ []
@@ -78,8 +78,8 @@ no_dash : (word : List ℕ) → AllByRecursion (λ c. 97 ≤ c) word → bytes_e
 no_dash [] above = refl
 no_dash (c ∷ word) above = rw (ne_eqb c 45 (λ e. absurd (omega (arith, above.0)))) refl
 
-pub cats_again : (cats : ℕ) → cats < 2 ^ 16 → cats_of (cats_word cats) ≡ Some cats
-unfolding cats_of
+pub cats_again : (cats : ℕ) → cats < 2 ^ 16 → cats_read (cats_word cats) ≡ Some cats
+unfolding cats_read
 cats_again cats lt =
     elim (cases_Bool (eqb cats 0)) [
       | inl is ↦ (let e : cats ≡ 0 = eqb-true cats 0 is in rw e refl)
@@ -107,8 +107,8 @@ wholly (n, []) cats e =
     ]
 wholly (n, c ∷ word) cats e = absurd (nothing_some cats e)
 
-pub cats_takes : (word : List ℕ) (cats : ℕ) → cats_of word ≡ Some cats → (word ≡ cats_word cats) × (cats < 2 ^ 16)
-unfolding cats_of
+pub cats_takes : (word : List ℕ) (cats : ℕ) → cats_read word ≡ Some cats → (word ≡ cats_word cats) × (cats < 2 ^ 16)
+unfolding cats_read
 cats_takes word cats e =
     elim (cases_Bool (bytes_eq word (codes "-"))) [
       | inl is ↦

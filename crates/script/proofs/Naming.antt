@@ -16,9 +16,9 @@ use Rattle.events.specs.declared.event.Stream.{Stream}
 use Rattle.script.specs.declared.line.PartyWord.{PartyWord}
 use Rattle.script.specs.declared.line.PartyWord.TheVariants.{Address, Name}
 use Rattle.script.specs.declared.line.StreamWord.{StreamWord}
-use Rattle.script.specs.declared.line.EventWords.{EventWords}
-use Rattle.script.specs.declared.line.EventWords.TheVariants as said
-use Rattle.script.specs.Reading.{◌>>=◌}
+use Rattle.script.specs.Lines.{EventWords}
+use Rattle.script.specs.Lines as line
+use Rattle.script.specs.Facts.{◌>>=◌}
 use Rattle.script.specs.Facts.{party_named, stream_named, event_named}
 use Rattle.script.specs.Text.{name_or_none, party_said, stream_said, event_said}
 use Rattle.script.proofs.Tools.{bind_some, some_same}
@@ -64,18 +64,18 @@ stream_back roster words stream e =
 
 -- the words of the event that words stand for are those words
 pub event_back : (roster : RosterView) (words : EventWords) (event : Event) → event_named roster words ≡ Some event → event_said roster event ≡ words
-event_back roster (said.Send from to message) event e =
+event_back roster (line.Send from to message) event e =
     let party = bind_some (party_named roster to) (λ party. Some (Send from party message)) event e in
-    ap (event_said roster) (sym (some_same (Send from party.0 message) event party.2)) ∙ ap (λ (p : PartyWord). said.Send from p message) (party_back roster to party.0 party.1)
-event_back roster (said.Deliver stream message piece at) event e =
+    ap (event_said roster) (sym (some_same (Send from party.0 message) event party.2)) ∙ ap (λ (p : PartyWord). line.Send from p message) (party_back roster to party.0 party.1)
+event_back roster (line.Deliver stream message piece at) event e =
     let parties = bind_some (stream_named roster stream) (λ parties. party_named roster at >>= λ party. Some (Arrive parties message piece party)) event e in
     let party = bind_some (party_named roster at) (λ party. Some (Arrive parties.0 message piece party)) event parties.2 in
     ap (event_said roster) (sym (some_same (Arrive parties.0 message piece party.0) event party.2))
-    ∙ ap (λ (s : StreamWord). said.Deliver s message piece (party_said roster party.0)) (stream_back roster stream parties.0 parties.1)
-    ∙ ap (λ (p : PartyWord). said.Deliver stream message piece p) (party_back roster at party.0 party.1)
-event_back roster (said.Carry stream message at) event e =
+    ∙ ap (λ (s : StreamWord). line.Deliver s message piece (party_said roster party.0)) (stream_back roster stream parties.0 parties.1)
+    ∙ ap (λ (p : PartyWord). line.Deliver stream message piece p) (party_back roster at party.0 party.1)
+event_back roster (line.Carry stream message at) event e =
     let parties = bind_some (stream_named roster stream) (λ parties. party_named roster at >>= λ party. Some (Carry parties message party)) event e in
     let party = bind_some (party_named roster at) (λ party. Some (Carry parties.0 message party)) event parties.2 in
     ap (event_said roster) (sym (some_same (Carry parties.0 message party.0) event party.2))
-    ∙ ap (λ (s : StreamWord). said.Carry s message (party_said roster party.0)) (stream_back roster stream parties.0 parties.1)
-    ∙ ap (λ (p : PartyWord). said.Carry stream message p) (party_back roster at party.0 party.1)
+    ∙ ap (λ (s : StreamWord). line.Carry s message (party_said roster party.0)) (stream_back roster stream parties.0 parties.1)
+    ∙ ap (λ (p : PartyWord). line.Carry stream message p) (party_back roster at party.0 party.1)

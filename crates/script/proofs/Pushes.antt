@@ -11,14 +11,14 @@ use Rattle.levels.specs.declared.rows.LevelRow.{LevelRow}
 use Rattle.levels.specs.declared.rows.HostRow.{HostRow}
 use Rattle.levels.specs.Rosters.{RosterView, level_named}
 use Rattle.events.specs.declared.event.Event.{Event}
-use Rattle.script.specs.declared.line.EventWords.{EventWords}
-use Rattle.script.specs.declared.line.Line.{Line}
-use Rattle.script.specs.declared.line.Line.TheVariants as line
-use Rattle.script.specs.Reading.{◌>>=◌}
+use Rattle.events.specs.ScriptView.{ScriptView}
+use Rattle.script.specs.Lines.{EventWords, Line}
+use Rattle.script.specs.Lines as line
+use Rattle.script.specs.Facts.{◌>>=◌}
 use Rattle.script.specs.Facts.{Kind, version_line, level_line, host_line, begin_line, event_line, end_line, kind_of, last_kind, is_end, event_named, as_level, as_host, as_event, roster_with, levels_of, Facts, facts}
-use Rattle.script.specs.Reasons.{may_follow, has_parties, is_known}
+use Rattle.script.specs.Reasons.{may_follow, has_parties, has_names}
 use Rattle.script.specs.Text.{line_of_level, line_of_host, line_of_event, script_lines}
-use Rattle.script.specs.Stages.{with_some, host_added, after}
+use Rattle.script.specs.inside.Stages.{with_some, host_added, after}
 use Rattle.script.proofs.Naming.{some_of, named_at, event_back}
 
 last_push : (lines : List Line) (next : Line) → last_kind (lines ++ next ∷ []) ≡ Some (kind_of next)
@@ -114,6 +114,9 @@ push_end lines = facts_push lines line.End
 
 -- ---- the order of lines that stand where they may
 
+abbrev pub script_with : RosterView → List Event → ScriptView
+script_with roster events = record { roster = roster; events = events }
+
 -- the lines of a script up to one of a kind
 abbrev pub shape : Option Kind → RosterView → List Event → List Line
 shape None roster events = []
@@ -122,7 +125,7 @@ shape (Some level_line) roster events = (line.Version ∷ []) ++ map line_of_lev
 shape (Some host_line) roster events = (line.Version ∷ []) ++ map line_of_level roster.levels ++ map (line_of_host roster) roster.hosts
 shape (Some begin_line) roster events = (line.Version ∷ []) ++ map line_of_level roster.levels ++ map (line_of_host roster) roster.hosts ++ (line.Begin ∷ [])
 shape (Some event_line) roster events = (line.Version ∷ []) ++ map line_of_level roster.levels ++ map (line_of_host roster) roster.hosts ++ (line.Begin ∷ []) ++ map (line_of_event roster) events
-shape (Some end_line) roster events = script_lines roster events
+shape (Some end_line) roster events = script_lines (script_with roster events)
 
 -- what has not come before a line of a kind
 abbrev pub Bare : Option Kind → RosterView → List Event → Type 0
@@ -203,7 +206,7 @@ upto_begin roster = (line.Version ∷ []) ++ map line_of_level roster.levels ++ 
 
 -- a line that may stand behind lines in order leaves them in order
 order_step : (last : Option Kind) (roster : RosterView) (events : List Event) (ended : Bool) (next : Line) → Bare last roster events → ended ≡ closes last
-    → may_follow last (kind_of next) ≡ true → is_known (made last roster events ended) next ≡ true → InOrder (shape last roster events ++ next ∷ []) (after (made last roster events ended) next)
+    → may_follow last (kind_of next) ≡ true → has_names (made last roster events ended) next ≡ true → InOrder (shape last roster events ++ next ∷ []) (after (made last roster events ended) next)
 order_step None roster events ended line.Version b e may known = order_version roster events ended b e
 order_step None roster events ended (line.Level name level) b e may known = absurd cc
 order_step None roster events ended (line.Host address level) b e may known = absurd cc
@@ -320,7 +323,7 @@ pub record Stand (lines : List Line) (said : Facts) : Type 0 where
 pub stand_first : Stand [] (facts [])
 stand_first = record { says = refl; order = record { shaped = refl; bare = (refl, refl, refl); ended = refl } }
 
-pub stand_push : (lines : List Line) (said : Facts) (next : Line) → Stand lines said → may_follow said.last (kind_of next) ≡ true → is_known said next ≡ true → Stand (lines ++ next ∷ []) (after said next)
+pub stand_push : (lines : List Line) (said : Facts) (next : Line) → Stand lines said → may_follow said.last (kind_of next) ≡ true → has_names said next ≡ true → Stand (lines ++ next ∷ []) (after said next)
 stand_push lines said next at may known =
     let shaped = at.order.shaped in
     let whole = shape said.last said.roster said.events in

@@ -4,13 +4,12 @@ use Rattle.std.specs.Prelude.{slice_get}
 use Rattle.std.specs.List.{flat_map}
 use Rattle.std.proofs.lemmas.List.{append-nil, map_push}
 use Rattle.std.proofs.lemmas.List.Concat.{flat_map-append}
-use Rattle.script.specs.declared.line.Line.{Line}
+use Rattle.script.specs.Lines.{Line}
 use Rattle.std.specs.Option.{option_map}
 use Rattle.levels.specs.declared.level.Level.{Level}
 use Rattle.levels.specs.declared.rows.LevelRow.{LevelRow}
 use Rattle.levels.specs.Rosters.{RosterView, name_at, level_at}
-use Rattle.script.specs.Spelling.{letters}
-use Rattle.script.specs.Text.{ended_text}
+use Rattle.script.specs.Spelling.{letters, ended_text}
 
 take_one_more : {X : Type 0} (xs : List X) (i : ℕ) (x : X) → slice_get xs i ≡ Some x → take (suc i) xs ≡ take i xs ++ x ∷ []
 take_one_more [] i x e = absurd cc

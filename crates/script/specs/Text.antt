@@ -13,11 +13,9 @@ use Rattle.events.specs.ScriptView.{ScriptView}
 use Rattle.script.specs.declared.line.PartyWord.{PartyWord}
 use Rattle.script.specs.declared.line.PartyWord.TheVariants.{Address, Name}
 use Rattle.script.specs.declared.line.StreamWord.{StreamWord}
-use Rattle.script.specs.declared.line.EventWords.{EventWords}
-use Rattle.script.specs.declared.line.EventWords.TheVariants as said
-use Rattle.script.specs.declared.line.Line.{Line}
-use Rattle.script.specs.declared.line.Line.TheVariants as line
-use Rattle.script.specs.Spelling.{line_text}
+use Rattle.script.specs.Lines.{EventWords, Line}
+use Rattle.script.specs.Lines as line
+use Rattle.script.specs.Spelling.{ended_text}
 
 abbrev pub name_or_none : RosterView → ℕ → List ℕ
 name_or_none roster place = unwrap_or (name_at roster (record { 0 = place })) []
@@ -28,12 +26,15 @@ party_said roster (Host address) = Address address
 party_said roster (Manager partition) = Name (name_or_none roster partition.0)
 
 abbrev pub stream_said : RosterView → Stream → StreamWord
-stream_said roster stream = record { from = party_said roster stream.from; to = party_said roster stream.to }
+stream_said roster stream =
+    record { from = party_said roster stream.from; to = party_said roster stream.to }
 
 abbrev pub event_said : RosterView → Event → EventWords
-event_said roster (Send from to message) = said.Send from (party_said roster to) message
-event_said roster (Arrive stream message piece at) = said.Deliver (stream_said roster stream) message piece (party_said roster at)
-event_said roster (Carry stream message at) = said.Carry (stream_said roster stream) message (party_said roster at)
+event_said roster (Send from to message) = line.Send from (party_said roster to) message
+event_said roster (Arrive stream message piece at) =
+    line.Deliver (stream_said roster stream) message piece (party_said roster at)
+event_said roster (Carry stream message at) =
+    line.Carry (stream_said roster stream) message (party_said roster at)
 
 abbrev pub line_of_level : LevelRow → Line
 line_of_level row = line.Level row.name row.level
@@ -45,14 +46,11 @@ abbrev pub line_of_event : RosterView → Event → Line
 line_of_event roster event = line.Event (event_said roster event)
 
 -- the lines of a script in their order
-abbrev pub script_lines : RosterView → List Event → List Line
-script_lines roster events =
-    (line.Version ∷ []) ++ map line_of_level roster.levels ++ map (line_of_host roster) roster.hosts
-    ++ (line.Begin ∷ []) ++ map (line_of_event roster) events ++ (line.End ∷ [])
-
--- the text of a line with its newline
-abbrev pub ended_text : Line → List ℕ
-ended_text line' = line_text line' ++ 10 ∷ []
+abbrev pub script_lines : ScriptView → List Line
+script_lines script =
+    (line.Version ∷ []) ++ map line_of_level script.roster.levels
+    ++ map (line_of_host script.roster) script.roster.hosts
+    ++ (line.Begin ∷ []) ++ map (line_of_event script.roster) script.events ++ (line.End ∷ [])
 
 unfoldable pub text_of : ScriptView → List ℕ
-text_of script = flat_map ended_text (script_lines script.roster script.events)
+text_of script = flat_map ended_text (script_lines script)

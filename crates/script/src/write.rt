@@ -4,8 +4,10 @@ ghost use Rattle.levels.specs.Kept.{IsRoster};
 ghost use Rattle.levels.specs.declared.rows.HostRow.{HostRow};
 ghost use Rattle.levels.specs.declared.rows.LevelRow.{LevelRow};
 ghost use Rattle.events.specs.Scripts.{is_known, is_named};
-ghost use Rattle.script.specs.Spelling.{letters, cats_word, party_word, stream_word, numbers_word};
-ghost use Rattle.script.specs.Text.{party_said, stream_said, line_of_level, line_of_host, line_of_event, ended_text, text_of};
+ghost use Rattle.script.specs.Spelling.{letters, cats_word, party_text, stream_text, numbers_text};
+ghost use Rattle.script.specs.Spelling.{ended_text};
+ghost use Rattle.script.specs.Text.{party_said, stream_said, line_of_level, line_of_host};
+ghost use Rattle.script.specs.Text.{line_of_event, text_of};
 
 use events::{Event, Script, Stream, push_hex, push_number};
 use levels::{Level, LevelName, Partition, Party, Roster};
@@ -18,7 +20,7 @@ fn write_numbers(
     message: u32,
     piece: u8,
 ) -> Result<(), AllocError>
-    ensures { OnOk result (text.new.items ≡ text.old.items ++ numbers_word (message, piece)) }
+    ensures { OnOk result (text.new.items ≡ text.old.items ++ numbers_text (message, piece)) }
 {
     push_number(alloc, text, message)?;
     text.push(b'.')?;
@@ -56,7 +58,7 @@ fn write_party(
     party: Party,
 ) -> Result<(), AllocError>
     requires { is_known roster.now party ≡ true }
-    ensures { OnOk result (text.new.items ≡ text.old.items ++ party_word (party_said roster.now party)) }
+    ensures { OnOk result (text.new.items ≡ text.old.items ++ party_text (party_said roster.now party)) }
 {
     match party {
         Party::Host(address) => push_number(alloc, text, u32::from(address)),
@@ -75,7 +77,7 @@ fn write_stream(
 ) -> Result<(), AllocError>
     requires from { is_known roster.now stream.from ≡ true }
     requires to { is_known roster.now stream.to ≡ true }
-    ensures { OnOk result (text.new.items ≡ text.old.items ++ stream_word (stream_said roster.now stream)) }
+    ensures { OnOk result (text.new.items ≡ text.old.items ++ stream_text (stream_said roster.now stream)) }
 {
     write_party(alloc, text, roster, stream.from)?;
     text.push(b'>')?;
@@ -154,7 +156,7 @@ fn write_end(
 ) -> Result<(), AllocError>
     requires { is_known roster.now at ≡ true }
     ensures { OnOk result (text.new.items ≡
-        text.old.items ++ codes " to " ++ party_word (party_said roster.now at) ++ 10 ∷ []) }
+        text.old.items ++ codes " to " ++ party_text (party_said roster.now at) ++ 10 ∷ []) }
 {
     text.extend_from_slice(b" to ".as_slice())?;
     write_party(alloc, text, roster, at)?;

@@ -1,6 +1,6 @@
 use Rattle.std.proofs.lemmas.Grind.{common_steps}
 use Rattle.std.proofs.Common.{arith}
-use Rattle.script.specs.Reading.{words}
+use Rattle.script.specs.inside.Readers.{words}
 use Rattle.script.proofs.Cutting.{not_one}
 use Rattle.script.proofs.words.one_word.Goals as goal
 

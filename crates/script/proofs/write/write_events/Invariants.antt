@@ -1,6 +1,7 @@
 use Rattle.std.proofs.Common.{◌≡◌, ◌++◌, take, map}
 use Rattle.std.specs.List.{flat_map}
-use Rattle.script.specs.Text.{ended_text, line_of_event}
+use Rattle.script.specs.Spelling.{ended_text}
+use Rattle.script.specs.Text.{line_of_event}
 use Rattle.script.proofs.write.write_events.Given as goal
 
 abbrev pub invariant-loop-event : goal.invariant-loop-event
