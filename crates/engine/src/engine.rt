@@ -5,7 +5,7 @@ ghost use Rattle.levels.specs.Rosters.{partition_of, level_of};
 ghost use Rattle.events.specs.declared.event.Event.{Event};
 ghost use Rattle.events.specs.Scripts.{is_known, is_named};
 ghost use Rattle.lattice_machine.specs.Told.{told_within};
-ghost use Rattle.script.specs.Plain.{IsHost, IsPlain};
+ghost use Rattle.script.specs.Today.{IsHost, IsBetweenHosts};
 ghost use Rattle.engine.specs.Reports.{lines_of};
 ghost use Rattle.engine.specs.Standing.{number_in, between, Stands};
 
@@ -100,7 +100,7 @@ fn step(
     event: &Event,
 ) -> Result<(), AllocError>
     requires named { is_named roster.now event.now ≡ true }
-    requires plain { IsPlain event.now }
+    requires plain { IsBetweenHosts event.now }
     ensures { OnOk result ((past : List Event) → length past < 100000 → Stands roster.now past network.old → Stands roster.now (event.now ∷ past) network.new) }
 {
     match event {
@@ -127,7 +127,7 @@ fn step(
 
 /// All events happen, in order.
 fn follow(network: &mut Network, alloc: Global, script: &Script) -> Result<(), AllocError>
-    requires plain { AllByRecursion IsPlain script.now.events }
+    requires plain { AllByRecursion IsBetweenHosts script.now.events }
     requires stands { Stands script.now.roster [] network.old }
     ensures { OnOk result (Stands script.now.roster (reverse script.now.events) network.new) }
 {
@@ -149,7 +149,7 @@ impl Engine {
 
     /// Runs the script: each host is told what the lattice machine tells it on the events at or below its level.
     pub fn run<R: Threads>(self, rt: &R, alloc: Global) -> Result<Report, AllocError>
-        requires { AllByRecursion IsPlain self.events }
+        requires { AllByRecursion IsBetweenHosts self.events }
         ensures script { IfOk result (λ report. report.script ≡ self) }
         ensures strangers { IfOk result (λ report. (a : ℕ) → a < 256 →
             is_known self.roster (Host a) ≡ false → lines_of report a ≡ []) }

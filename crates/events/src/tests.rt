@@ -1,9 +1,13 @@
 ghost use Rattle.std.specs.Prelude.{◌≤◌};
+ghost use Rattle.events.specs.Scripts.{HasBlockNumber};
 
-use crate::{Body, Event, Script, ScriptStop, Stream, push_hex, push_number};
+use crate::{Body, Edits, Event, Script, ScriptStop, Stream, push_hex, push_number};
+use file_calls::{Call, Content, Name};
 use levels::{Level, LevelName, Partition, Party, Roster, Sealing};
+use seal_core::KeyPair;
 use std::alloc::Global;
 use std::test::Fail;
+use untrusted_store::{PlanRow, StoreAction};
 
 fn add_level(roster: &mut Roster, name: &[u8], rank: u8, cats: u16) -> Result<Partition, Fail>
     requires { rank ≤ 7 }
@@ -137,6 +141,232 @@ fn names_parties_of_the_roster(rt: HostRuntime) -> Result<(), Fail> {
         };
         assert!(rt; script.add_event(carry) == answer, "{stream:?} at {at:?}");
     }
+    Ok(())
+}
+
+fn name(alloc: Global) -> Result<Name, Fail> {
+    Ok(Name::new(alloc, b"note")?.ok_or("no name")?)
+}
+
+fn content(alloc: Global) -> Result<Content, Fail> {
+    Ok(Content::new(alloc, b"ab")?.ok_or("no content")?)
+}
+
+fn ask(script: &mut Script, from: u8, call: Call) -> Result<(), ScriptStop>
+    requires { HasBlockNumber call }
+{
+    script.add_event(Event::Ask { from, call })
+}
+
+/// A call names its host, and a level where it has one.
+#[test]
+fn names_levels_of_the_roster(rt: HostRuntime) -> Result<(), Fail> {
+    let alloc = rt.alloc();
+    let mut script = small_script(alloc)?;
+    for (from, level, known) in [(1, 1, true), (6, 0, true), (9, 1, false), (1, 2, false)] {
+        let answer = if known { Ok(()) } else { Err(ScriptStop::Name) };
+        let get = Call::Get {
+            level,
+            name: name(alloc)?,
+        };
+        assert!(rt; ask(&mut script, from, get) == answer, "get {from} {level}");
+        let list = Call::List { level };
+        assert!(rt;
+            ask(&mut script, from, list) == answer,
+            "list {from} {level}"
+        );
+        let block = Call::GetBlock {
+            level,
+            name: name(alloc)?,
+            block: 63,
+        };
+        assert!(rt;
+            ask(&mut script, from, block) == answer,
+            "block {from} {level}"
+        );
+    }
+    for (from, known) in [(5, true), (0, false)] {
+        let answer = if known { Ok(()) } else { Err(ScriptStop::Name) };
+        let put = Call::Put {
+            name: name(alloc)?,
+            content: content(alloc)?,
+        };
+        assert!(rt; ask(&mut script, from, put) == answer, "put {from}");
+        let append = Call::Append {
+            name: name(alloc)?,
+            content: content(alloc)?,
+        };
+        assert!(rt; ask(&mut script, from, append) == answer, "append {from}");
+        let remove = Call::Remove { name: name(alloc)? };
+        assert!(rt; ask(&mut script, from, remove) == answer, "remove {from}");
+    }
+    assert_eq!(rt; script.events().len(), 9);
+    Ok(())
+}
+
+#[test]
+fn holds_forged_and_changed_frames(rt: HostRuntime) -> Result<(), Fail> {
+    let mut script = small_script(rt.alloc())?;
+    for (at, known) in [
+        (Party::Manager(Partition(0)), true),
+        (Party::Host(9), false),
+    ] {
+        let answer = if known { Ok(()) } else { Err(ScriptStop::Name) };
+        let forge = Event::Forge {
+            at,
+            bytes: [0x44; 128],
+        };
+        assert!(rt; script.add_event(forge) == answer, "forged at {at:?}");
+        let tamper = Event::Tamper {
+            stream: STREAM,
+            message: 4_294_967_295,
+            piece: 63,
+            at,
+            edits: Edits::new(&[(32, 1), (40, 1)]).ok_or("no edits")?,
+        };
+        assert!(rt; script.add_event(tamper) == answer, "changed at {at:?}");
+    }
+    match script.events() {
+        [Event::Forge { bytes, .. }, Event::Tamper { edits, .. }] => {
+            assert!(rt; bytes == &[0x44; 128]);
+            assert!(rt; edits.pairs() == [(32, 1), (40, 1)].as_slice());
+        }
+        _ => assert!(rt; false, "other events"),
+    }
+    Ok(())
+}
+
+#[test]
+fn edits(rt: HostRuntime) -> Result<(), Fail> {
+    let eight = [
+        (0, 1),
+        (1, 255),
+        (2, 2),
+        (3, 3),
+        (64, 4),
+        (65, 5),
+        (126, 6),
+        (127, 7),
+    ];
+    for pairs in [
+        [(0, 255)].as_slice(),
+        &[(127, 1)],
+        &[(5, 1), (6, 1)],
+        &eight,
+    ] {
+        let edits = Edits::new(pairs).ok_or("no edits")?;
+        assert!(rt; edits.pairs() == pairs);
+    }
+    let nine = [
+        (0, 1),
+        (1, 1),
+        (2, 1),
+        (3, 1),
+        (4, 1),
+        (5, 1),
+        (6, 1),
+        (7, 1),
+        (8, 1),
+    ];
+    for pairs in [
+        [].as_slice(),
+        &[(128, 1)],
+        &[(5, 0)],
+        &[(5, 1), (5, 2)],
+        &[(6, 1), (5, 1)],
+        &nine,
+    ] {
+        assert!(rt; Edits::new(pairs).is_none());
+    }
+    Ok(())
+}
+
+fn row(reader: u8, action: StoreAction) -> PlanRow {
+    PlanRow {
+        reader: Partition(reader),
+        action,
+    }
+}
+
+#[test]
+fn holds_rows(rt: HostRuntime) -> Result<(), Fail> {
+    let mut script = small_script(rt.alloc())?;
+    let version = 72_057_594_037_927_935;
+    let flip = StoreAction::Flip {
+        offset: 4_294_967_295,
+        xor: 128,
+    };
+    for (row, known) in [
+        (row(0, StoreAction::Honest), true),
+        (row(1, StoreAction::Of { level: 0, version }), true),
+        (row(0, flip), true),
+        (row(1, StoreAction::Gone), true),
+        (row(2, StoreAction::Honest), false),
+        (row(0, StoreAction::Of { level: 2, version }), false),
+    ] {
+        let answer = if known { Ok(()) } else { Err(ScriptStop::Name) };
+        assert!(rt; script.add_plan(row) == answer, "{row:?}");
+    }
+    assert_eq!(rt; script.rows().len(), 4);
+    assert!(rt; script.rows()[2] == row(0, flip));
+    script.add_event(Event::Carry {
+        stream: STREAM,
+        message: 0,
+        at: STREAM.to,
+    })?;
+    assert!(rt; script.events().len() == 1);
+    assert_eq!(rt; script.line_of(0), 13);
+    Ok(())
+}
+
+#[test]
+fn holds_so_many_rows(rt: HostRuntime) -> Result<(), Fail> {
+    let mut script = small_script(rt.alloc())?;
+    for _ in 0..100_000 {
+        script.add_plan(row(1, StoreAction::Honest))?;
+    }
+    let one_more = script.add_plan(row(1, StoreAction::Gone));
+    assert!(rt; one_more == Err(ScriptStop::Many));
+    let unknown = script.add_plan(row(2, StoreAction::Gone));
+    assert!(rt; unknown == Err(ScriptStop::Name));
+    assert_eq!(rt; script.rows().len(), 100_000);
+    Ok(())
+}
+
+fn pair(main: u64, check: u64) -> KeyPair {
+    KeyPair {
+        main: main.to_be_bytes(),
+        check: check.to_be_bytes(),
+    }
+}
+
+/// The lines `dss 1`, `seal des`, `level U 0 -`, `key U ..`, `guard ..`, `begin` and an event.
+#[test]
+fn lines_of_a_des_script(rt: HostRuntime) -> Result<(), Fail> {
+    let mut roster = Roster::new(rt.alloc(), Sealing::Des);
+    add_level(&mut roster, b"U", 0, 0)?;
+    let Sealing::Des = roster.sealing() else {
+        return Err("clear sealing")?;
+    };
+    if roster.key_count() >= roster.level_count() {
+        return Err("all levels have keys")?;
+    }
+    roster.add_keys(pair(0x1334_5779_9bbc_dff1, 0x0e32_9232_ea6d_0d73))?;
+    if roster.key_count() != roster.level_count() || roster.is_complete() {
+        return Err("no room for the guarantor's keys")?;
+    }
+    roster.set_guard(pair(0x0123_4567_89ab_cdef, 0xfedc_ba98_7654_3210))?;
+    if !roster.is_complete() {
+        return Err("keys are missing")?;
+    }
+    let mut script = Script::start(rt.alloc(), roster);
+    let at = Party::Manager(Partition(0));
+    script.add_event(Event::Forge {
+        at,
+        bytes: [0; 128],
+    })?;
+    assert!(rt; script.events().len() == 1);
+    assert_eq!(rt; script.line_of(0), 7);
     Ok(())
 }
 

@@ -1,6 +1,7 @@
 ghost use Rattle.std.specs.Prelude.{◌≤◌};
 
 use crate::{Level, LevelName, Partition, Party, Roster, RosterStop, Sealing};
+use seal_core::KeyPair;
 use std::alloc::Global;
 use std::test::Fail;
 
@@ -224,5 +225,143 @@ fn refuses_hosts(rt: HostRuntime) -> Result<(), Fail> {
     assert_eq!(rt; roster.host_count(), 64);
     assert_eq!(rt; roster.partition_of(Party::Host(250)), None);
     assert_eq!(rt; roster.partition_of(Party::Host(1)), Some(Partition(0)));
+    Ok(())
+}
+
+/// Two keys that are neither weak nor the same, and those of the second level and the guarantor.
+const FIRST: (u64, u64) = (0x1334_5779_9bbc_dff1, 0x0e32_9232_ea6d_0d73);
+
+const SECOND: (u64, u64) = (0x0123_4567_89ab_cdef, 0xfedc_ba98_7654_3210);
+
+const GUARD: (u64, u64) = (0x2222_2222_2222_2222, 0x4444_4444_4444_4444);
+
+fn pair(keys: (u64, u64)) -> KeyPair {
+    KeyPair {
+        main: keys.0.to_be_bytes(),
+        check: keys.1.to_be_bytes(),
+    }
+}
+
+fn des_roster(alloc: Global) -> Result<Roster, Fail> {
+    let mut roster = Roster::new(alloc, Sealing::Des);
+    add_level(&mut roster, b"U", 0, 0)??;
+    add_level(&mut roster, b"S", 2, 1)??;
+    Ok(roster)
+}
+
+fn add_keys(roster: &mut Roster, keys: (u64, u64)) -> Result<Result<(), RosterStop>, Fail> {
+    let Sealing::Des = roster.sealing() else {
+        return Err("clear sealing")?;
+    };
+    if roster.key_count() >= roster.level_count() {
+        return Err("all levels have keys")?;
+    }
+    Ok(roster.add_keys(pair(keys)))
+}
+
+fn set_guard(roster: &mut Roster, keys: (u64, u64)) -> Result<Result<(), RosterStop>, Fail> {
+    let Sealing::Des = roster.sealing() else {
+        return Err("clear sealing")?;
+    };
+    if roster.level_count() == 0 || roster.key_count() != roster.level_count() {
+        return Err("a level has no keys")?;
+    }
+    if roster.is_complete() {
+        return Err("the guarantor has keys")?;
+    }
+    Ok(roster.set_guard(pair(keys)))
+}
+
+/// The key pairs of both levels and the guarantor's.
+fn all_keys(roster: &Roster) -> Result<[KeyPair; 3], Fail> {
+    if !roster.is_complete() || roster.level_count() != 2 {
+        return Err("not complete")?;
+    }
+    let first = roster.keys_at(Partition(0));
+    let second = roster.keys_at(Partition(1));
+    Ok([first, second, roster.guard_keys()])
+}
+
+#[test]
+fn keys_of_a_des_roster(rt: HostRuntime) -> Result<(), Fail> {
+    let mut roster = des_roster(rt.alloc())?;
+    assert!(rt; roster.sealing() == Sealing::Des);
+    for keys in [FIRST, SECOND] {
+        assert!(rt; !roster.is_complete());
+        assert_eq!(rt; add_keys(&mut roster, keys)?, Ok(()));
+    }
+    assert_eq!(rt; roster.key_count(), 2);
+    assert!(rt; !roster.is_complete());
+    assert_eq!(rt; set_guard(&mut roster, GUARD)?, Ok(()));
+    assert!(rt; roster.is_complete());
+    add_host(&mut roster, 1, b"U")??;
+    assert!(rt; all_keys(&roster)? == [pair(FIRST), pair(SECOND), pair(GUARD)]);
+    Ok(())
+}
+
+#[test]
+fn keys_of_a_clear_roster(rt: HostRuntime) -> Result<(), Fail> {
+    let roster = small_roster(rt.alloc())?;
+    assert_eq!(rt; roster.key_count(), 0);
+    let zeros = [0; 8];
+    let expected = [[1; 8], [2; 8], [255; 8]].map(|check| KeyPair { main: zeros, check });
+    assert!(rt; all_keys(&roster)? == expected);
+    Ok(())
+}
+
+/// Keys that are weak or the same, with and without their parity bits.
+#[test]
+fn refuses_keys(rt: HostRuntime) -> Result<(), Fail> {
+    let mut roster = des_roster(rt.alloc())?;
+    for keys in [
+        (0, FIRST.0),
+        (FIRST.0, 0x0101_0101_0101_0101),
+        (FIRST.0, 0x1334_5779_9bbc_dff1),
+        (FIRST.0, 0x1234_5678_9abc_def0),
+        (0xffff_ffff_ffff_ffff, FIRST.0),
+        (0x1f1f_1f1f_0e0e_0e0e, FIRST.0),
+        (FIRST.0, 0xe1e0_e1e0_f0f1_f0f1),
+    ] {
+        assert_eq!(rt; add_keys(&mut roster, keys)?, Err(RosterStop::Key));
+        assert_eq!(rt; roster.key_count(), 0);
+    }
+    assert_eq!(rt; add_keys(&mut roster, FIRST)?, Ok(()));
+    for keys in [
+        FIRST,
+        (FIRST.1, FIRST.0),
+        (SECOND.0, FIRST.0),
+        (FIRST.1 ^ 0x0100_0100_0001_0001, SECOND.0),
+    ] {
+        assert_eq!(rt; add_keys(&mut roster, keys)?, Err(RosterStop::Key));
+        assert_eq!(rt; roster.key_count(), 1);
+    }
+    assert_eq!(rt; add_keys(&mut roster, SECOND)?, Ok(()));
+    for keys in [
+        SECOND,
+        (GUARD.0, FIRST.1),
+        (FIRST.0 ^ 1, GUARD.0),
+        (GUARD.0, GUARD.0 ^ 1),
+    ] {
+        assert_eq!(rt; set_guard(&mut roster, keys)?, Err(RosterStop::Key));
+        assert!(rt; !roster.is_complete());
+    }
+    assert_eq!(rt; set_guard(&mut roster, GUARD)?, Ok(()));
+    Ok(())
+}
+
+/// A level that is added behind the guarantor's keys gets none of those.
+#[test]
+fn refuses_the_keys_of_the_guarantor(rt: HostRuntime) -> Result<(), Fail> {
+    let mut roster = Roster::new(rt.alloc(), Sealing::Des);
+    add_level(&mut roster, b"U", 0, 0)??;
+    add_keys(&mut roster, FIRST)??;
+    set_guard(&mut roster, GUARD)??;
+    add_level(&mut roster, b"S", 2, 1)??;
+    assert!(rt; !roster.is_complete());
+    for keys in [GUARD, (SECOND.0, GUARD.1), (GUARD.0 ^ 1, SECOND.1)] {
+        assert_eq!(rt; add_keys(&mut roster, keys)?, Err(RosterStop::Key));
+    }
+    assert_eq!(rt; add_keys(&mut roster, SECOND)?, Ok(()));
+    assert!(rt; roster.is_complete());
     Ok(())
 }

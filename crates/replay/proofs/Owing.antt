@@ -1,5 +1,5 @@
 -- The status and the text that are due.
-use Rattle.std.proofs.Common.{◌≡◌, ℕ, List, sym, ◌∙◌, ap, subst}
+use Rattle.std.proofs.Common.{◌≡◌, ℕ, List, sym, subst}
 use Rattle.std.specs.Prelude.{Ok}
 use Rattle.events.specs.ScriptView.{ScriptView}
 use Rattle.script.specs.Answers.{AnswersText}
@@ -11,4 +11,4 @@ use Rattle.replay.specs.Due.{IsDue, text_for}
 pub due_fine : (command : Command) (bytes : List ℕ) (v : Verdict) (text : List ℕ) (script : ScriptView) → AnswersText bytes (Ok script) → v ≡ verdict.Fine → text ≡ text_for command script
     → IsDue command bytes v text
 due_fine command bytes v text script h is t =
-    subst (λ (x : Verdict). IsDue command bytes x text) (sym is) (h.0, t ∙ ap (text_for command) h.1)
+    subst (λ (x : Verdict). IsDue command bytes x text) (sym is) (script, h, t)

@@ -10,7 +10,7 @@ use Rattle.events.specs.Scripts.{is_known}
 use Rattle.script.specs.declared.refusal.Refusal.{Refusal}
 use Rattle.script.specs.declared.refusal.Reason.{Reason}
 use Rattle.script.specs.declared.refusal.Reason.TheVariants as reason
-use Rattle.script.specs.Reasons.{FirstRefusal, IsClean, script_of}
+use Rattle.script.specs.Reasons.{FirstRefusal, IsScriptOf}
 use Rattle.levels.specs.Rosters.{level_of}
 use Rattle.lattice_machine.specs.Told.{told_within}
 use Rattle.lattice_machine.specs.Text.{line, text}
@@ -60,9 +60,11 @@ abbrev pub text_for : Command → ScriptView → List ℕ
 text_for Replay script = text script
 text_for Check script = check_line script
 
--- the verdict and the text that are due for an input: its first refusal, else what its script is asked for
+-- the verdict and the text that are due for an input: its first refusal, else what is asked of the
+-- script that it says
 abbrev pub IsDue : Command → List ℕ → Verdict → List ℕ → Type 0
-IsDue command bytes verdict.Fine written = IsClean bytes × (written ≡ text_for command (script_of bytes))
+IsDue command bytes verdict.Fine written =
+    (script : ScriptView) × IsScriptOf bytes script × (written ≡ text_for command script)
 IsDue command bytes (verdict.Refused refusal) written = FirstRefusal bytes refusal × (written ≡ refused_line refusal)
 
 -- just this is due

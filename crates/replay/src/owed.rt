@@ -3,7 +3,7 @@ ghost use Rattle.script.specs.Reasons.{FirstRefusal};
 ghost use Rattle.replay.specs.Due.{reason_word, refused_line, check_line, text_for, IsDue};
 ghost use Rattle.replay.specs.declared.owed.Verdict.TheVariants.{Fine, Refused};
 ghost use Rattle.replay.specs.declared.command.Command.TheVariants.{Replay};
-ghost use Rattle.script.specs.Plain.{IsPlain};
+ghost use Rattle.script.specs.Today.{IsBetweenHosts};
 ghost use Rattle.std.specs.List.{AllByRecursion};
 
 use crate::command::Command;
@@ -78,7 +78,7 @@ fn check_line(alloc: Global, script: &Script) -> Result<Vec<u8>, AllocError>
 }
 
 fn replay_text<R: Threads>(rt: &R, alloc: Global, script: Script) -> Result<Vec<u8>, AllocError>
-    requires { AllByRecursion IsPlain script.events }
+    requires { AllByRecursion IsBetweenHosts script.events }
     ensures { IfOk result (λ written. written.items ≡ text_for Replay script) }
 {
     let report = Engine::open(alloc, script)?.run(rt, alloc)?;
@@ -91,7 +91,7 @@ fn text_for<R: Threads>(
     command: Command,
     script: Script,
 ) -> Result<Vec<u8>, AllocError>
-    requires { AllByRecursion IsPlain script.events }
+    requires { AllByRecursion IsBetweenHosts script.events }
     ensures { IfOk result (λ written. written.items ≡ text_for command script) }
 {
     match command {
@@ -115,7 +115,7 @@ fn script_owed<R: Threads>(
     command: Command,
     script: Script,
 ) -> Result<Owed, AllocError>
-    requires { AllByRecursion IsPlain script.events }
+    requires { AllByRecursion IsBetweenHosts script.events }
     ensures { IfOk result (λ owed. (owed.verdict ≡ Fine) × (owed.text.items ≡ text_for command script)) }
 {
     let text = text_for(rt, alloc, command, script)?;

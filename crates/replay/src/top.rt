@@ -3,7 +3,8 @@ ghost use Rattle.std.specs.Io.KnownBytes.{Keeps, Appends, IsAtEnd};
 ghost use Rattle.dss_io.specs.Faults.{Rose};
 ghost use Rattle.dss_io.specs.Writing.{AppendsProperPrefix};
 ghost use Rattle.script.specs.declared.refusal.Refusal.{Refusal};
-ghost use Rattle.script.specs.Reasons.{FirstRefusal, IsClean, script_of};
+ghost use Rattle.events.specs.ScriptView.{ScriptView};
+ghost use Rattle.script.specs.Reasons.{FirstRefusal, IsScriptOf};
 ghost use Rattle.replay.specs.declared.command.Command.{Command};
 ghost use Rattle.replay.specs.declared.status.Status.{Status};
 ghost use Rattle.replay.specs.Due.{command_of, refused_line, text_for, IsDue, IsOwed, too_long, status_of, WritesBeginning, WritesAll, Delivers};
@@ -121,7 +122,8 @@ pub fn run<R: Threads, S: Source, K: Sink>(
     // what the lattice machine says.
     ensures fine { (command : Command) (bytes : List ℕ) → command_of (map string_bytes words.now) ≡ Some command →
         S.left source.old ≡ Some bytes → result ≡ Status.Fine →
-        IsClean bytes × Appends (K.written sink.old) (K.written sink.new) (text_for command (script_of bytes)) × IsAtEnd (S.left source.new) }
+        (script : ScriptView) × IsScriptOf bytes script ×
+        Appends (K.written sink.old) (K.written sink.new) (text_for command script) × IsAtEnd (S.left source.new) }
     // Another text is refused at its first refusal, and one line says so.
     ensures refused { (command : Command) (bytes : List ℕ) → command_of (map string_bytes words.now) ≡ Some command →
         S.left source.old ≡ Some bytes → (refusal : Refusal) → result ≡ Status.Refused refusal →

@@ -1,116 +1,132 @@
 -- The loop over the lines, in the words of its code.
-use Rattle.std.proofs.Common.{zero, suc, ◌≡◌, ℕ, ◌+◌, ◌-◌, ◌<◌, ◌≤◌, true, List, [], ◌∷◌, ◌++◌, length, take, drop, Option, Some, None, Ok, Err, refl, sym, ap, subst, ◌∙◌, arith, append_assoc, inr}
-use Rattle.std.specs.List.{AllByRecursion, flat_map, join_with_byte}
-use Rattle.std.proofs.lemmas.List.{append-nil, length-drop}
-use Rattle.std.proofs.lemmas.List.Splits.{join_with_byte-slice_split}
+use Rattle.std.proofs.Common.{◌≡◌, ℕ, ◌+◌, ◌-◌, ◌<◌, ◌≤◌, true, List, [], ◌∷◌, length, Option, Some, None, Ok, Err, refl, sym, ap, subst, ◌∙◌, arith, inr}
+use Rattle.std.specs.List.{AllByRecursion, flat_map}
+use Rattle.std.proofs.lemmas.List.{append-nil}
+use Rattle.untrusted_store.specs.declared.plan.PlanRow.{PlanRow}
 use Rattle.events.specs.declared.event.Event.{Event}
 use Rattle.events.specs.ScriptView.{ScriptView}
 use Rattle.levels.specs.Rosters.{RosterView}
+use Rattle.script.specs.declared.read.TheConstants.{TEXT_LIMIT}
 use Rattle.script.specs.declared.stage.Stage.{Stage}
 use Rattle.script.specs.declared.refusal.Reason.{Reason}
 use Rattle.script.specs.declared.refusal.Stop.{Stop}
 use Rattle.script.specs.declared.refusal.Stop.TheVariants as stop
-use Rattle.script.specs.Facts.{Kind, version_line, level_line, host_line, begin_line, event_line, end_line, Facts, facts}
-use Rattle.script.specs.Reasons.{at_end, parts, lines, lines_read, IsClean}
-use Rattle.script.specs.Text.{ended_text, script_lines, text_of}
-use Rattle.script.specs.Plain.{IsPlain}
+use Rattle.script.specs.Lines.{Line}
+use Rattle.script.specs.Spelling.{ended_text}
+use Rattle.script.specs.Text.{script_lines, text_of}
+use Rattle.script.specs.Today.{IsSaidToday, IsBetweenHosts}
+use Rattle.script.specs.Facts.{Kind, end_line, levels_of, hosts_of, roster_of, events_of, Facts, facts}
+use Rattle.script.specs.Reasons.{IsReadable, IsScriptOf}
 use Rattle.script.specs.Answers.{AnswersText}
-use Rattle.script.specs.Stages.{seen, after, Steps, Finishes, at_line}
-use Rattle.script.proofs.Cutting.{some_part}
-use Rattle.script.proofs.Pushes.{shape, closes}
-use Rattle.script.proofs.Reached.{Reached, with_newline, goes_on, stops, ends_badly, ends_well, ended_well}
+use Rattle.script.specs.inside.Stages.{seen, after, Steps, Finishes, at_end, at_line}
+use Rattle.script.proofs.Pushes.{shape, closes, script_with, plain_lines, plain-lines}
+use Rattle.script.proofs.Free.{free_stand}
+use Rattle.script.proofs.Hosts.{readable_today, readable_hosts}
+use Rattle.script.proofs.Reached.{Reached, parts, goes_on, stops, ends_badly, ended_well}
 
-pub goes_on_by : (texts : List (List ℕ)) (line : ℕ) (rest behind text : List ℕ) (old : Facts) (new : Stage) → 0 < line → Reached texts (line - 1) (parts rest) old → parts rest ≡ text ∷ parts behind
-    → Steps old text (Ok new) → Reached texts (line + 1 - 1) (parts behind) (seen new)
-goes_on_by texts line rest behind text old new one at cut step =
-    let n = some_part 10 behind in
-    let cut' : parts rest ≡ text ∷ n.0 ∷ n.1 = cut ∙ ap (λ (p : List (List ℕ)). text ∷ p) n.2 in
-    let at' : Reached texts (line - 1) (text ∷ n.0 ∷ n.1) old = subst (λ (p : List (List ℕ)). Reached texts (line - 1) p old) cut' at in
-    let on = goes_on texts (line - 1) text n.0 n.1 old step.0 at' step.1 step.2 in
+pub goes_on_by : (bytes : List ℕ) (line : ℕ) (rest behind text : List ℕ) (old : Facts) (new : Stage)
+    → 0 < line
+    → Reached bytes (line - 1) rest old → parts rest ≡ text ∷ parts behind → Steps old text (Ok new)
+    → Reached bytes (line + 1 - 1) behind (seen new)
+goes_on_by bytes line rest behind text old new one at cut step =
+    let on = goes_on bytes (line - 1) rest text behind old step.0 at cut step.1 step.2 in
     let number : line - 1 + 1 ≡ line + 1 - 1 = omega arith in
-    let on' : Reached texts (line + 1 - 1) (n.0 ∷ n.1) (after old step.0) = subst (λ (k : ℕ). Reached texts k (n.0 ∷ n.1) (after old step.0)) number on in
-    let on'' : Reached texts (line + 1 - 1) (parts behind) (after old step.0) = subst (λ (p : List (List ℕ)). Reached texts (line + 1 - 1) p (after old step.0)) (sym n.2) on' in
-    subst (λ (f : Facts). Reached texts (line + 1 - 1) (parts behind) f) (sym step.3) on''
+    let on' : Reached bytes (line + 1 - 1) behind (after old step.0) =
+    subst (λ (k : ℕ). Reached bytes k behind (after old step.0)) number on in
+    subst (λ (f : Facts). Reached bytes (line + 1 - 1) behind f) (sym step.3) on'
 
 -- a line that stops the reading is the first refused one
-pub stops_by : (bytes : List ℕ) (line : ℕ) (rest behind text : List ℕ) (old : Facts) (why : Stop) → length bytes ≤ 16777216 → 0 < line → Reached (parts bytes) (line - 1) (parts rest) old
-    → parts rest ≡ text ∷ parts behind → Steps old text (Err why) → AnswersText bytes (Err (at_line line why))
+pub stops_by : (bytes : List ℕ) (line : ℕ) (rest behind text : List ℕ) (old : Facts) (why : Stop)
+    → length bytes ≤ TEXT_LIMIT → 0 < line
+    → Reached bytes (line - 1) rest old → parts rest ≡ text ∷ parts behind
+    → Steps old text (Err why) → AnswersText bytes (Err (at_line line why))
 stops_by bytes line rest behind text old (stop.Refused reason) short one at cut e =
-    let n = some_part 10 behind in
-    let cut' : parts rest ≡ text ∷ n.0 ∷ n.1 = cut ∙ ap (λ (p : List (List ℕ)). text ∷ p) n.2 in
-    let at' : Reached (parts bytes) (line - 1) (text ∷ n.0 ∷ n.1) old = subst (λ (p : List (List ℕ)). Reached (parts bytes) (line - 1) p old) cut' at in
-    inr (short, line - 1, omega arith, stops (parts bytes) (line - 1) text n.0 n.1 old reason at' e)
+    inr (
+      short,
+      at.lines,
+      rest,
+      omega (arith, at.counted),
+      at.begins,
+      stops bytes (line - 1) rest text behind old reason at cut e,
+    )
 stops_by bytes line rest behind text old stop.OutOfMemory short one at cut e = tt
 
-pub ends_badly_by : (bytes : List ℕ) (line : ℕ) (rest : List ℕ) (old : Facts) (reason : Reason) → length bytes ≤ 16777216 → 0 < line → Reached (parts bytes) (line - 1) (parts rest) old
-    → parts rest ≡ rest ∷ [] → at_end old.ended rest ≡ Some reason → AnswersText bytes (Err (at_line line (stop.Refused reason)))
-ends_badly_by bytes line rest old reason short one at cut e =
-    let at' : Reached (parts bytes) (line - 1) (rest ∷ []) old = subst (λ (p : List (List ℕ)). Reached (parts bytes) (line - 1) p old) cut at in
-    inr (short, line - 1, omega arith, ends_badly (parts bytes) (line - 1) rest old reason at' e)
+pub ends_badly_by : (bytes : List ℕ) (line : ℕ) (rest : List ℕ) (old : Facts) (reason : Reason)
+    → length bytes ≤ TEXT_LIMIT → 0 < line
+    → Reached bytes (line - 1) rest old → parts rest ≡ rest ∷ []
+    → at_end old.ended rest ≡ Some reason
+    → AnswersText bytes (Err (at_line line (stop.Refused reason)))
+ends_badly_by bytes line rest old reason short one at whole e =
+    inr (
+      short,
+      at.lines,
+      rest,
+      omega (arith, at.counted),
+      at.begins,
+      ends_badly bytes (line - 1) rest old reason at whole e,
+    )
+
+-- ---- whole texts
 
 -- only an `end` closes a text
 closed : (last : Option Kind) → closes last ≡ true → last ≡ Some end_line
 closed None e = absurd cc
-closed (Some version_line) e = absurd cc
-closed (Some level_line) e = absurd cc
-closed (Some host_line) e = absurd cc
-closed (Some begin_line) e = absurd cc
-closed (Some event_line) e = absurd cc
 closed (Some end_line) e = refl
+closed (Some kind) e = absurd cc
 
--- texts joined at newlines
-joined : (texts : List (List ℕ)) (k : ℕ) (text : List ℕ) → drop k texts ≡ text ∷ [] → join_with_byte 10 texts ≡ flat_map with_newline (take k texts) ++ text
-joined [] zero text e = absurd cc
-joined (p ∷ []) zero text e = cc
-joined (p ∷ q ∷ texts) zero text e = absurd cc
-joined [] (suc k) text e = absurd cc
-joined (p ∷ []) (suc k) text e = absurd (omega (arith, length-drop {A = List ℕ} k [], ap length e))
-joined (p ∷ q ∷ texts) (suc k) text e =
-    let more = joined (q ∷ texts) k text e in
-    ap (λ (x : List ℕ). p ++ (10 ∷ x)) more ∙ sym (append_assoc p (10 ∷ []) (flat_map with_newline (take k (q ∷ texts)) ++ text)) ∙ sym (append_assoc (p ++ 10 ∷ []) (flat_map with_newline (take k (q ∷ texts))) text)
+-- the lines of a clean text are those of its script
+pub whole_lines : (bytes : List ℕ) (script : ScriptView) (of : IsScriptOf bytes script)
+    → of.lines ≡ script_lines script
+whole_lines bytes script of =
+    let said = facts of.lines in
+    let stand = free_stand of.lines of.read.free in
+    let last : said.last ≡ Some end_line = closed said.last (sym stand.order.ended ∙ of.ended) in
+    let shaped : of.lines ≡ plain_lines (roster_of of.lines) (events_of of.lines) =
+    subst (λ (l : Option Kind). of.lines ≡ shape l said.roster said.events) last
+    stand.order.shaped in
+    shaped ∙ sym (plain-lines (levels_of of.lines) (hosts_of of.lines) (events_of of.lines))
+    ∙ ap script_lines (sym of.says)
 
--- a text that was read to its end
-pub record Whole (bytes : List ℕ) (said : Facts) : Type 0 where
-  pub clean : IsClean bytes
-  pub says : facts (lines_read (lines bytes)) ≡ said
-  pub text : bytes ≡ text_of (record { roster = said.roster; events = said.events })
-
-pub whole_text : (bytes : List ℕ) (k : ℕ) (tail : List ℕ) (said : Facts) → length bytes ≤ 16777216 → Reached (parts bytes) k (tail ∷ []) said → at_end said.ended tail ≡ None → Whole bytes said
+pub whole_text : (bytes : List ℕ) (script : ScriptView) → IsScriptOf bytes script
+    → bytes ≡ text_of script
 unfolding text_of
-whole_text bytes k tail said short at fine =
-    let texts = parts bytes in
-    let ends = ends_well texts k tail said at fine in
-    let well = ended_well said.ended tail fine in
-    let last : said.last ≡ Some end_line = closed said.last (sym at.stand.order.ended ∙ well.0) in
-    let n : length texts - 1 ≡ k = omega (arith, ends.0) in
-    let shaped : lines_read (take k texts) ≡ script_lines said.roster said.events =
-    subst (λ (l : Option Kind). lines_read (take k texts) ≡ shape l said.roster said.events) last at.stand.order.shaped in
-    let spelled : join_with_byte 10 texts ≡ flat_map ended_text (script_lines said.roster said.events) =
-    joined texts k tail at.left ∙ ap (λ (x : List ℕ). flat_map with_newline (take k texts) ++ x) well.1 ∙ append-nil (flat_map with_newline (take k texts))
-    ∙ sym at.spelled ∙ ap (flat_map ended_text) shaped in
+whole_text bytes script of =
+    of.read.spelled ∙ append-nil (flat_map ended_text of.lines)
+    ∙ ap (flat_map ended_text) (whole_lines bytes script of)
+
+whole_readable : (bytes : List ℕ) (script : ScriptView) → IsScriptOf bytes script
+    → AllByRecursion IsReadable (script_lines script)
+whole_readable bytes script of =
+    subst (λ (ls : List Line). AllByRecursion IsReadable ls) (whole_lines bytes script of)
+    of.read.readable
+
+pub whole_today : (bytes : List ℕ) (script : ScriptView) → IsScriptOf bytes script
+    → IsSaidToday script
+whole_today bytes script of = readable_today (script_lines script) (whole_readable bytes script of)
+
+pub whole_hosts : (bytes : List ℕ) (script : ScriptView) → IsScriptOf bytes script
+    → AllByRecursion IsBetweenHosts script.events
+whole_hosts bytes script of = readable_hosts script (whole_readable bytes script of)
+
+pub ends_well : (bytes : List ℕ) (count : ℕ) (rest : List ℕ) (old : Facts)
+    → length bytes ≤ TEXT_LIMIT → Reached bytes count rest old
+    → at_end old.ended rest ≡ None → IsScriptOf bytes (script_with old.roster old.events)
+ends_well bytes count rest old short at fine =
+    let well = ended_well old.ended rest fine in
     record {
-      clean = record { short = short; fine = ends.1 };
-      says = (rw n at.stand.says);
-      text = sym (join_with_byte-slice_split 10 bytes) ∙ spelled;
+      short = short;
+      lines = at.lines;
+      read = (rw (← well.1) at.begins);
+      ended = ap (λ (f : Facts). f.ended) at.stand.says ∙ well.0;
+      says = ap (λ (f : Facts). script_with f.roster f.events) (sym at.stand.says);
     }
 
-abbrev pub script_with : RosterView → List Event → ScriptView
-script_with roster events = record { roster = roster; events = events }
-
--- what a finished reading answers
-pub record Finished (bytes : List ℕ) (script : ScriptView) : Type 0 where
-  pub exact : AnswersText bytes (Ok script)
-  pub text : bytes ≡ text_of script
-  pub plain : AllByRecursion IsPlain script.events
-
-pub finishes_by : (bytes : List ℕ) (line : ℕ) (rest : List ℕ) (old : Facts) (script : ScriptView) → length bytes ≤ 16777216 → Reached (parts bytes) (line - 1) (parts rest) old
-    → parts rest ≡ rest ∷ [] → Finishes old rest (Ok script) → Finished bytes script
-finishes_by bytes line rest old script short at cut e =
-    let at' : Reached (parts bytes) (line - 1) (rest ∷ []) old = subst (λ (p : List (List ℕ)). Reached (parts bytes) (line - 1) p old) cut at in
-    let w = whole_text bytes (line - 1) rest old short at' e.0 in
-    let same : script ≡ script_with old.roster old.events = ap (λ (r : RosterView). script_with r script.events) e.1 ∙ ap (λ (es : List Event). script_with old.roster es) e.2 in
-    record {
-      exact = (w.clean, same ∙ ap (λ (f : Facts). script_with f.roster f.events) (sym w.says));
-      text = w.text ∙ ap text_of (sym same);
-      plain = subst (λ (es : List Event). AllByRecursion IsPlain es) (sym e.2) at'.plain;
-    }
+pub finishes_by : (bytes : List ℕ) (line : ℕ) (rest : List ℕ) (old : Facts) (script : ScriptView)
+    → length bytes ≤ TEXT_LIMIT
+    → Reached bytes (line - 1) rest old → Finishes old rest (Ok script) → IsScriptOf bytes script
+finishes_by bytes line rest old script short at e =
+    let same : script ≡ script_with old.roster old.events =
+    ap (λ (rows : List PlanRow). record script { rows = rows }) e.2
+    ∙ ap (λ (r : RosterView). script_with r script.events) e.1
+    ∙ ap (λ (es : List Event). script_with old.roster es) e.3 in
+    subst (IsScriptOf bytes) (sym same) (ends_well bytes (line - 1) rest old short at e.0)

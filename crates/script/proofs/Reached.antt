@@ -1,131 +1,159 @@
 -- How far a text was read without a refusal.
-use Rattle.std.proofs.Common.{zero, suc, ◌≡◌, ℕ, ◌+◌, ◌<◌, ◌≤◌, Bool, true, false, cond, not, List, [], ◌∷◌, ◌++◌, length, take, drop, Option, Some, None, refl, sym, ap, subst, ◌∙◌, arith, add-one, inl, inr}
-use Rattle.std.specs.Prelude.{slice_get}
-use Rattle.std.specs.List.{AllByRecursion, flat_map}
-use Rattle.std.proofs.lemmas.Bool.{lt-ltb, le-ltb, cases_lt}
-use Rattle.std.proofs.lemmas.List.Elements.{filter_map-append}
-use Rattle.std.proofs.lemmas.List.Concat.{flat_map-append}
-use Rattle.script.specs.declared.line.Line.{Line}
+use Rattle.std.proofs.Common.{◌≡◌, ◌≢◌, ℕ, ◌+◌, Bool, true, false, List, [], ◌∷◌, ◌++◌, length, Option, Some, None, refl, sym, ap, subst, ◌∙◌, arith, length-append}
+use Rattle.std.specs.List.{join_with_byte}
+use Rattle.std.proofs.lemmas.List.Splits.{slice_split_at, join_with_byte-slice_split}
 use Rattle.script.specs.declared.refusal.Reason.{Reason}
 use Rattle.script.specs.declared.refusal.Reason.TheVariants as why
-use Rattle.script.specs.Reading.{line_of}
-use Rattle.script.specs.Facts.{kind_of, Facts, facts}
-use Rattle.script.specs.Reasons.{may_follow, is_known, against, reason_of, at_end, lines_read, reason_at, IsFirst}
-use Rattle.script.specs.Text.{ended_text}
-use Rattle.script.specs.Plain.{IsPlain}
-use Rattle.script.specs.Stages.{after}
-use Rattle.script.proofs.Forms.{line_takes}
-use Rattle.script.proofs.Planes.{plain_push}
+use Rattle.script.specs.Lines.{Line}
+use Rattle.script.specs.Spelling.{line_text}
+use Rattle.script.specs.Facts.{Facts, facts}
+use Rattle.script.specs.Reasons.{against, Spells, BeginsWith, IsRefused}
+use Rattle.script.specs.inside.Readers.{parts_at, line_read}
+use Rattle.script.specs.inside.Stages.{reason_of, at_end, after}
+use Rattle.script.proofs.Cutting.{some_part}
+use Rattle.script.proofs.Inks.{ranges_held, no_newline}
+use Rattle.script.proofs.Forms.{line_takes, spelled_is_read}
 use Rattle.script.proofs.Pushes.{Stand, stand_first, stand_push}
+use Rattle.script.proofs.Free.{begins_none, begins_push, allowed, IsOfLines, of_lines}
 
-abbrev pub with_newline : List ℕ → List ℕ
-with_newline text = text ++ 10 ∷ []
+-- a text cut at its newlines
+abbrev pub parts : List ℕ → List (List ℕ)
+parts bytes = parts_at 10 bytes
 
--- none of the first k texts has a reason, and this is what they say
-pub record Reached (texts : List (List ℕ)) (k : ℕ) (rest : List (List ℕ)) (said : Facts) : Type 0 where
-  pub left : drop k texts ≡ rest
-  pub stand : Stand (lines_read (take k texts)) said
-  pub spelled : flat_map ended_text (lines_read (take k texts)) ≡ flat_map with_newline (take k texts)
-  pub plain : AllByRecursion IsPlain said.events
-  pub clean : (j : ℕ) → j < k → reason_at texts j ≡ None
+-- a text begins with so many lines that nothing is against, and this is what they say
+pub record Reached (bytes : List ℕ) (count : ℕ) (rest : List ℕ) (said : Facts) : Type 0 where
+  pub lines : List Line
+  pub counted : length lines ≡ count
+  pub begins : BeginsWith bytes lines rest
+  pub stand : Stand lines said
 
-pub reached_none : (texts : List (List ℕ)) → Reached texts 0 texts (facts [])
-reached_none texts = record { left = refl; stand = stand_first; spelled = refl; plain = tt; clean = λ j lt. absurd (omega arith) }
+pub reached_none : (bytes : List ℕ) → Reached bytes 0 bytes (facts [])
+reached_none bytes = record {
+  lines = [];
+  counted = refl;
+  begins = begins_none bytes;
+  stand =
+      stand_first;
+}
 
--- the text at k
-pub record Here (texts : List (List ℕ)) (k : ℕ) (text : List ℕ) (more : List (List ℕ)) : Type 0 where
-  pub long : length texts ≡ k + suc (length more)
-  pub get : slice_get texts k ≡ Some text
-  pub next : drop (suc k) texts ≡ more
-  pub taken : take (suc k) texts ≡ take k texts ++ text ∷ []
+-- the first of the parts of a text is what stands in front of its first newline
+pub cut_is : (rest text behind : List ℕ) → parts rest ≡ text ∷ parts behind
+    → rest ≡ text ++ 10 ∷ behind
+cut_is rest text behind cut =
+    let some = some_part 10 behind in
+    sym (join_with_byte-slice_split 10 rest)
+    ∙ ap (join_with_byte 10) (cut ∙ ap (λ (ps : List (List ℕ)). text ∷ ps) some.2)
+    ∙ ap (λ (ps : List (List ℕ)). text ++ 10 ∷ join_with_byte 10 ps) (sym some.2)
+    ∙ ap (λ (bs : List ℕ). text ++ 10 ∷ bs) (join_with_byte-slice_split 10 behind)
 
-pub here : (texts : List (List ℕ)) (k : ℕ) (text : List ℕ) (more : List (List ℕ)) → drop k texts ≡ text ∷ more → Here texts k text more
-here [] zero text more e = absurd cc
-here (t ∷ texts) zero text more e =
-    let a : t ≡ text = cc in
-    let b : texts ≡ more = cc in
-    record { long = (rw b (omega arith)); get = ap Some a; next = b; taken = ap (λ (x : List ℕ). x ∷ []) a }
-here [] (suc k) text more e = absurd cc
-here (t ∷ texts) (suc k) text more e =
-    let h = here texts k text more e in
-    record { long = omega (arith, h.long); get = h.get; next = h.next; taken = ap (λ (x : List (List ℕ)). t ∷ x) h.taken }
-
--- the reason against a text with a newline
-pub reason_here : (texts : List (List ℕ)) (k : ℕ) (text next : List ℕ) (more : List (List ℕ)) (said : Facts) → Reached texts k (text ∷ next ∷ more) said → reason_at texts k ≡ reason_of said (line_of text)
-unfolding reason_at
-reason_here texts k text next more said at =
-    let h = here texts k text (next ∷ more) at.left in
-    let lt : k + 1 < length texts = omega (arith, h.long) in
-    rw (lt-ltb (k + 1) (length texts) lt, h.get, at.stand.says) refl
-
--- the reason against what stands behind the last newline
-pub reason_last : (texts : List (List ℕ)) (k : ℕ) (text : List ℕ) (said : Facts) → Reached texts k (text ∷ []) said → reason_at texts k ≡ at_end said.ended text
-unfolding reason_at
-reason_last texts k text said at =
-    let h = here texts k text [] at.left in
-    let le : length texts ≤ k + 1 = omega (arith, h.long) in
-    rw (le-ltb (k + 1) (length texts) le, h.get) (ap (λ (f : Facts). at_end f.ended text) at.stand.says)
-
-one_more : (texts : List (List ℕ)) (k : ℕ) → ((j : ℕ) → j < k → reason_at texts j ≡ None) → reason_at texts k ≡ None → (j : ℕ) → j < k + 1 → reason_at texts j ≡ None
-one_more texts k below now j lt =
-    elim (cases_lt j k) [
-      | inl less ↦ below j less
-      | inr least ↦ let e : j ≡ k = omega arith in rw e now
-    ]
-
--- where nothing is against a line, it may stand there and what it names is known
-pub allowed : (said : Facts) (next : Line) → against said next ≡ None → (may_follow said.last (kind_of next) ≡ true) × (is_known said next ≡ true)
-unfolding against
-allowed said next e = by_tests (may_follow said.last (kind_of next)) (is_known said next) _ e
-  where
-    by_tests : (may known : Bool) (rest : Option Reason) → cond (not may) (Some why.Place) (cond (not known) (Some why.Name) rest) ≡ None → (may ≡ true) × (known ≡ true)
-    by_tests true true rest e = (refl, refl)
-    by_tests true false rest e = absurd cc
-    by_tests false known rest e = absurd cc
-
-lines_push : (texts : List (List ℕ)) (text : List ℕ) (next : Line) → line_of text ≡ Some next → lines_read (texts ++ text ∷ []) ≡ lines_read texts ++ next ∷ []
-lines_push texts text next e = filter_map-append line_of texts (text ∷ []) ∙ rw e refl
+-- the text of a line in front of a newline is the first part
+pub spelled_part : (rest text more : List ℕ) (read : Line) → rest ≡ text ++ 10 ∷ more
+    → Spells text read → parts rest ≡ text ∷ parts more
+spelled_part rest text more read cut spells =
+    let lacks = no_newline read (ranges_held read spells.1.0) in
+    ap parts (cut ∙ ap (λ (t : List ℕ). t ++ 10 ∷ more) spells.0)
+    ∙ slice_split_at _ (line_text read) 10 more lacks refl
+    ∙ ap (λ (t : List ℕ). t ∷ parts more) (sym spells.0)
 
 -- one line further
-pub goes_on : (texts : List (List ℕ)) (k : ℕ) (text next : List ℕ) (more : List (List ℕ)) (said : Facts) (read : Line)
-    → Reached texts k (text ∷ next ∷ more) said → line_of text ≡ Some read → against said read ≡ None → Reached texts (k + 1) (next ∷ more) (after said read)
-goes_on texts k text next more said read at is free =
-    let h = here texts k text (next ∷ more) at.left in
-    let none : reason_at texts k ≡ None = reason_here texts k text next more said at ∙ rw is free in
+pub goes_on : (bytes : List ℕ) (count : ℕ) (rest text behind : List ℕ) (said : Facts) (read : Line)
+    → Reached bytes count rest said
+    → parts rest ≡ text ∷ parts behind → line_read text ≡ Some read → against said read ≡ None
+    → Reached bytes (count + 1) behind (after said read)
+goes_on bytes count rest text behind said read at cut is free =
     let allows = allowed said read free in
-    let lines : lines_read (take (k + 1) texts) ≡ lines_read (take k texts) ++ read ∷ [] = rw (add-one, h.taken) (lines_push (take k texts) text read is) in
-    let stand = stand_push (lines_read (take k texts)) said read at.stand allows.0 allows.1 in
-    let spelling = line_takes text read is in
-    let spelled : flat_map ended_text (lines_read (take k texts) ++ read ∷ []) ≡ flat_map with_newline (take k texts ++ text ∷ []) =
-    flat_map-append ended_text (lines_read (take k texts)) (read ∷ []) ∙ rw (at.spelled, ← spelling.0) (sym (flat_map-append with_newline (take k texts) (text ∷ []))) in
-    let taken : take k texts ++ text ∷ [] ≡ take (k + 1) texts = rw add-one (sym h.taken) in
+    let free' : against (facts at.lines) read ≡ None = rw at.stand.says free in
     record {
-      left = (rw add-one h.next);
-      stand = subst (λ (ls : List Line). Stand ls (after said read)) (sym lines) stand;
-      spelled = ap (flat_map ended_text) lines ∙ spelled ∙ ap (flat_map with_newline) taken;
-      plain = plain_push said read spelling.1 at.plain;
-      clean = one_more texts k at.clean none;
+      lines = at.lines ++ read ∷ [];
+      counted = omega (arith, length-append at.lines (read ∷ []), at.counted);
+      begins = begins_push bytes at.lines rest text behind read at.begins
+          (cut_is rest text behind cut) (line_takes text read is) free';
+      stand = stand_push at.lines said read at.stand allows.0 allows.1;
     }
 
-pub stops : (texts : List (List ℕ)) (k : ℕ) (text next : List ℕ) (more : List (List ℕ)) (said : Facts) (reason : Reason)
-    → Reached texts k (text ∷ next ∷ more) said → reason_of said (line_of text) ≡ Some reason → IsFirst texts k reason
-stops texts k text next more said reason at e =
-    let h = here texts k text (next ∷ more) at.left in
-    record { within = omega (arith, h.long); here = reason_here texts k text next more said at ∙ e; before = at.clean }
+-- ---- a text that is read no further
 
-pub ends_badly : (texts : List (List ℕ)) (k : ℕ) (text : List ℕ) (said : Facts) (reason : Reason) → Reached texts k (text ∷ []) said → at_end said.ended text ≡ Some reason → IsFirst texts k reason
-ends_badly texts k text said reason at e =
-    let h = here texts k text [] at.left in
-    record { within = omega (arith, h.long); here = reason_last texts k text said at ∙ e; before = at.clean }
+not_empty : (text more : List ℕ) → text ++ 10 ∷ more ≢ []
+not_empty [] more e = absurd cc
+not_empty (c ∷ text) more e = absurd cc
 
-pub ends_well : (texts : List (List ℕ)) (k : ℕ) (text : List ℕ) (said : Facts) → Reached texts k (text ∷ []) said → at_end said.ended text ≡ None
-    → (length texts ≡ k + 1) × ((j : ℕ) → j < length texts → reason_at texts j ≡ None)
-ends_well texts k text said at e =
-    let h = here texts k text [] at.left in
-    let n : length texts ≡ k + 1 = omega (arith, h.long) in
-    (n, λ j lt. one_more texts k at.clean (reason_last texts k text said at ∙ e) j (omega arith))
+nothing_read : (read : Line) → None ≡ Some read → ⊥
+nothing_read read e = absurd cc
 
-pub ended_well : (ended : Bool) (tail : List ℕ) → at_end ended tail ≡ None → (ended ≡ true) × (tail ≡ [])
+refused_form : (lines : List Line) (rest text behind : List ℕ) → parts rest ≡ text ∷ parts behind
+    → line_read text ≡ None → IsRefused lines rest why.Form
+refused_form lines rest text behind cut none =
+    (λ e. not_empty text behind (sym (cut_is rest text behind cut) ∙ e), other)
+  where
+    other : (text' : List ℕ) (more : List ℕ) (read : Line) → rest ≡ text' ++ 10 ∷ more
+        → Spells text' read → ⊥
+    other text' more read cut' spells =
+        let both : text ∷ parts behind ≡ text' ∷ parts more = sym cut
+        ∙ spelled_part rest text' more read cut' spells in
+        let same : text ≡ text' = cc in
+        nothing_read read (sym none ∙ ap line_read same ∙ spelled_is_read text' read spells)
+
+refused_line : (lines : List Line) (rest text behind : List ℕ) (read : Line) (reason : Reason)
+    → rest ≡ text ++ 10 ∷ behind → Spells text read
+    → against (facts lines) read ≡ Some reason → IsRefused lines rest reason
+refused_line lines rest text behind read reason cut spells e =
+    by_reason reason e (of_lines (facts lines) read reason e)
+  where
+    by_reason : (reason : Reason) → against (facts lines) read ≡ Some reason → IsOfLines reason
+        → IsRefused lines rest reason
+    by_reason why.Form e of = absurd of
+    by_reason why.End e of = absurd of
+    by_reason why.Place e of = (text, behind, read, cut, spells, e)
+    by_reason why.Name e of = (text, behind, read, cut, spells, e)
+    by_reason why.Twice e of = (text, behind, read, cut, spells, e)
+    by_reason why.Many e of = (text, behind, read, cut, spells, e)
+    by_reason why.Key e of = (text, behind, read, cut, spells, e)
+
+-- a line with a reason against it
+pub stops : (bytes : List ℕ) (count : ℕ) (rest text behind : List ℕ) (said : Facts)
+    (reason : Reason) (at : Reached bytes count rest said)
+    → parts rest ≡ text ∷ parts behind → reason_of said (line_read text) ≡ Some reason
+    → IsRefused at.lines rest reason
+stops bytes count rest text behind said reason at cut e = by_line (line_read text) refl e
+  where
+    by_line : (o : Option Line) → line_read text ≡ o → reason_of said o ≡ Some reason
+        → IsRefused at.lines rest reason
+    by_line None none e =
+        let form : why.Form ≡ reason = cc in
+        subst (IsRefused at.lines rest) form (refused_form at.lines rest text behind cut none)
+    by_line (Some read) is e =
+        refused_line at.lines rest text behind read reason (cut_is rest text behind cut)
+        (line_takes text read is) (rw at.stand.says e)
+
+one_part : (a text : List ℕ) (more : List (List ℕ)) → a ∷ [] ≡ text ∷ more → more ≡ []
+one_part a text more e = cc
+
+some_parts : (text : List ℕ) → parts text ≢ []
+some_parts text e = let some = some_part 10 text in absurd (cc (some.2, e))
+
+-- what stands behind the last newline
+pub ends_badly : (bytes : List ℕ) (count : ℕ) (rest : List ℕ) (said : Facts) (reason : Reason)
+    (at : Reached bytes count rest said)
+    → parts rest ≡ rest ∷ [] → at_end said.ended rest ≡ Some reason → IsRefused at.lines rest reason
+ends_badly bytes count rest said reason at whole e = by_rest said.ended rest refl refl e
+  where
+    by_rest : (ended : Bool) (tail : List ℕ) → said.ended ≡ ended → rest ≡ tail
+        → at_end ended tail ≡ Some reason → IsRefused at.lines rest reason
+    by_rest ended (c ∷ tail) same is e =
+        let form : why.Form ≡ reason = cc in
+        subst (IsRefused at.lines rest) form (
+          (λ empty. absurd (cc (is, empty))),
+          (λ text more read cut spells. some_parts more
+              (one_part rest text (parts more)
+              (sym whole ∙ spelled_part rest text more read cut spells))),
+        )
+    by_rest true [] same is e = absurd cc
+    by_rest false [] same is e =
+        let end : why.End ≡ reason = cc in
+        subst (IsRefused at.lines rest) end (is, ap (λ (f : Facts). f.ended) at.stand.says ∙ same)
+
+pub ended_well : (ended : Bool) (tail : List ℕ) → at_end ended tail ≡ None → (ended ≡ true)
+    × (tail ≡ [])
 ended_well true [] e = (refl, refl)
 ended_well false [] e = absurd cc
 ended_well ended (c ∷ tail) e = absurd cc

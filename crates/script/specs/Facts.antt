@@ -10,28 +10,39 @@ use Rattle.levels.specs.Rosters.{RosterView, level_named}
 use Rattle.events.specs.declared.event.Event.{Event}
 use Rattle.events.specs.declared.event.Event.TheVariants.{Send, Arrive, Carry}
 use Rattle.events.specs.declared.event.Stream.{Stream}
+use Rattle.events.specs.ScriptView.{ScriptView}
 use Rattle.script.specs.declared.line.PartyWord.{PartyWord}
 use Rattle.script.specs.declared.line.PartyWord.TheVariants.{Address, Name}
 use Rattle.script.specs.declared.line.StreamWord.{StreamWord}
-use Rattle.script.specs.declared.line.EventWords.{EventWords}
-use Rattle.script.specs.declared.line.EventWords.TheVariants as said
-use Rattle.script.specs.declared.line.Line.{Line}
-use Rattle.script.specs.declared.line.Line.TheVariants as line
-use Rattle.script.specs.Reading.{◌>>=◌}
+use Rattle.script.specs.Lines.{EventWords, Line}
+use Rattle.script.specs.Lines as line
+
+infixl 10 ◌>>=◌
+abbrev pub ◌>>=◌ : {A B : Type 0} → Option A → (A → Option B) → Option B
+Some x >>= f = f x
+None >>= f = None
 
 -- the kinds of lines; all event lines are of one kind
 pub data Kind : Type 0 where
   version_line : Kind
+  seal_line : Kind
   level_line : Kind
+  key_line : Kind
+  guard_line : Kind
   host_line : Kind
+  store_line : Kind
   begin_line : Kind
   event_line : Kind
   end_line : Kind
 
 abbrev pub kind_of : Line → Kind
 kind_of line.Version = version_line
+kind_of line.Seal = seal_line
 kind_of (line.Level name level) = level_line
+kind_of (line.Key level pair) = key_line
+kind_of (line.Guard pair) = guard_line
 kind_of (line.Host address level) = host_line
+kind_of (line.Store reader action) = store_line
 kind_of line.Begin = begin_line
 kind_of (line.Event words) = event_line
 kind_of line.End = end_line
@@ -59,19 +70,21 @@ stream_named roster words = do
   to ← party_named roster words.to
   Some (record { from = from; to = to })
 
--- an event by the words of its line, where the roster has the levels that it names
+-- an event by the words of its line, where the roster has the levels that it names; the forms that
+-- are not read yet stand for none
 abbrev pub event_named : RosterView → EventWords → Option Event
-event_named roster (said.Send from to message) = do
+event_named roster (line.Send from to message) = do
   party ← party_named roster to
   Some (Send from party message)
-event_named roster (said.Deliver stream message piece at) = do
+event_named roster (line.Deliver stream message piece at) = do
   parties ← stream_named roster stream
   party ← party_named roster at
   Some (Arrive parties message piece party)
-event_named roster (said.Carry stream message at) = do
+event_named roster (line.Carry stream message at) = do
   parties ← stream_named roster stream
   party ← party_named roster at
   Some (Carry parties message party)
+event_named roster _ = None
 
 -- ---- what each line adds
 
@@ -115,4 +128,13 @@ pub record Facts : Type 0 where
   pub ended : Bool
 
 abbrev pub facts : List Line → Facts
-facts lines = record { last = last_kind lines; roster = roster_of lines; events = events_of lines; ended = list_any is_end lines }
+facts lines = record {
+  last = last_kind lines;
+  roster = roster_of lines;
+  events = events_of lines;
+  ended = list_any is_end lines;
+}
+
+-- the script that lines say; no line that is read adds a row to the plan
+abbrev pub script_said : List Line → ScriptView
+script_said lines = record { roster = roster_of lines; rows = []; events = events_of lines }

@@ -1,36 +1,45 @@
 -- What holds of texts and scripts.
-use Rattle.std.specs.Prelude.{◌≡◌, ◌⊎◌, ℕ, ◌-◌, ◌≤◌, List, length, slice_get, Some}
+use Rattle.std.specs.Prelude.{◌≡◌, ◌⊎◌, ℕ, ◌-◌, ◌≤◌, ◌==◌, List, length, slice_get, Some}
+use Rattle.std.specs.List.{slice_split}
 use Rattle.events.specs.declared.event.Event.{Event}
 use Rattle.events.specs.ScriptView.{ScriptView}
 use Rattle.events.specs.Scripts.{IsScript, line_of}
+use Rattle.script.specs.declared.read.TheConstants.{TEXT_LIMIT}
 use Rattle.script.specs.declared.refusal.Refusal.{Refusal}
 use Rattle.script.specs.Spelling.{line_text}
-use Rattle.script.specs.Reasons.{FirstRefusal, IsClean, lines, script_of}
+use Rattle.script.specs.Reasons.{FirstRefusal, IsScriptOf, IsClean}
 use Rattle.script.specs.Text.{line_of_event, text_of}
-use Rattle.script.specs.Plain.{IsPlainScript}
+use Rattle.script.specs.Today.{IsSaidToday}
 
--- a text is clean or has a first refusal, never both, and never two
+-- a text is clean or has a first refusal, never both, and never two; and it says one script
 pub record HasOneOutcome (bytes : List ℕ) : Type 0 where
   pub some : IsClean bytes ⊎ ((refusal : Refusal) × FirstRefusal bytes refusal)
   pub apart : (refusal : Refusal) → FirstRefusal bytes refusal → IsClean bytes → ⊥
   pub one : (a b : Refusal) → FirstRefusal bytes a → FirstRefusal bytes b → a ≡ b
+  pub script : (a b : ScriptView) → IsScriptOf bytes a → IsScriptOf bytes b → a ≡ b
 
 abbrev pub EachTextHasOneOutcome : Type 0
 EachTextHasOneOutcome = (bytes : List ℕ) → HasOneOutcome bytes
 
--- The text of what a clean text says is that text.
+-- A clean text is the text of the script that it says.
 abbrev pub CleanTextsAreTheirOwn : Type 0
-CleanTextsAreTheirOwn = (bytes : List ℕ) → IsClean bytes → text_of (script_of bytes) ≡ bytes
+CleanTextsAreTheirOwn =
+    (bytes : List ℕ) (script : ScriptView) → IsScriptOf bytes script → text_of script ≡ bytes
 
--- The text of a script that can be held, where it is not too long, is clean and says that script.
+-- The text of a script that can be held, and said today, says that script where it is not too long.
 abbrev pub ScriptsReadAgain : Type 0
 ScriptsReadAgain =
-    (script : ScriptView) → IsScript script → IsPlainScript script → length (text_of script) ≤ 16777216
-    → IsClean (text_of script) × (script_of (text_of script) ≡ script)
+    (script : ScriptView) → IsScript script → IsSaidToday script
+    → length (text_of script) ≤ TEXT_LIMIT → IsScriptOf (text_of script) script
+
+-- the texts between newlines
+abbrev pub texts_of : List ℕ → List (List ℕ)
+texts_of bytes = slice_split (λ c. c == 10) bytes
 
 -- The line of an event has the event's text.
 abbrev pub EventsStandAtTheirLines : Type 0
 EventsStandAtTheirLines =
-    (script : ScriptView) → IsScript script → IsPlainScript script
+    (script : ScriptView) → IsScript script
     → (place : ℕ) (event : Event) → slice_get script.events place ≡ Some event
-    → slice_get (lines (text_of script)) (line_of script place - 1) ≡ Some (line_text (line_of_event script.roster event))
+    → slice_get (texts_of (text_of script)) (line_of script place - 1)
+    ≡ Some (line_text (line_of_event script.roster event))

@@ -1,9 +1,10 @@
+pub mod Lines
 pub mod Spelling
-pub mod Reading
+pub mod Ranges
+pub mod Text
+pub mod Today
 pub mod Facts
 pub mod Reasons
-pub mod Text
-pub mod Plain
 pub mod Answers
-pub mod Stages
 pub mod Laws
+pub mod inside

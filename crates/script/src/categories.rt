@@ -1,9 +1,10 @@
 ghost use Rattle.std.specs.Prelude.{◌≡◌, ◌+◌, ◌≤◌, ◌<◌, ◌^◌};
-ghost use Rattle.script.specs.Reading.{rising, cats_of};
+ghost use Rattle.script.specs.inside.Readers.{rising, cats_read};
 
 /// The categories of the letters in front of a word, as bits from the lowest, and what stands
-/// behind them. At most `count` letters are read, the first of them `letter` or a later one, rising.
-#[tactic(auto, unfolding(crate::specs::Reading::rising))]
+/// behind them. At most `count` letters are read, the first of them `letter` or a later one,
+/// rising.
+#[tactic(auto, unfolding(crate::specs::inside::Readers::rising))]
 fn rising(count: u8, letter: u8, word: &[u8]) -> (u16, &[u8])
     requires few { count ≤ 16 }
     requires letters { letter + count ≤ 255 }
@@ -28,9 +29,9 @@ fn rising(count: u8, letter: u8, word: &[u8]) -> (u16, &[u8])
 }
 
 /// The set of categories that a word says.
-#[tactic(auto, unfolding(crate::specs::Reading::cats_of))]
+#[tactic(auto, unfolding(crate::specs::inside::Readers::cats_read))]
 pub fn categories(word: &[u8]) -> Option<u16>
-    ensures { result ≡ cats_of word.now }
+    ensures { result ≡ cats_read word.now }
 {
     if word == b"-".as_slice() {
         return Some(0);

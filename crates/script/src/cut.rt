@@ -1,5 +1,5 @@
 ghost use Rattle.std.specs.Prelude.{◌≡◌, ◌<◌, ◌∷◌, [], length, MatchOption, IfSome};
-ghost use Rattle.script.specs.Reading.{parts_at};
+ghost use Rattle.script.specs.inside.Readers.{parts_at};
 
 /// What stands before the first mark in a text, and what stands behind it.
 pub fn cut(text: &[u8], mark: u8) -> Option<(&[u8], &[u8])>

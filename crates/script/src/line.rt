@@ -1,5 +1,5 @@
 ghost use Rattle.std.specs.Prelude.{◌≡◌, IfSome};
-ghost use Rattle.events.specs.Scripts.{HasPieceNumber};
+ghost use Rattle.events.specs.Scripts.{HasNumbers};
 
 use events::{Body, Event, Stream};
 use levels::{Level, LevelName, Party, Roster};
@@ -20,7 +20,7 @@ pub struct StreamWord {
     pub to: PartyWord,
 }
 
-/// An event as its line says it.
+/// An event as its line says it, of a form that is read.
 #[derive(Debug, Drop)]
 pub enum EventWords {
     Send {
@@ -41,7 +41,7 @@ pub enum EventWords {
     },
 }
 
-/// A line of a script.
+/// A line of a script, of a form that is read.
 #[derive(Debug, Drop)]
 pub enum Line {
     Version,
@@ -83,13 +83,14 @@ impl StreamWord {
 
 impl EventWords {
     ghost use Rattle.script.specs.Facts.{event_named};
-    ghost use Rattle.script.specs.Stages.{HasPiece};
+    ghost use Rattle.script.specs.Ranges.{HasEventRanges};
+    ghost use Rattle.script.specs.inside.Readers.{words_meant};
 
     /// The event, where the roster has the levels that the words name.
     pub fn event(self, roster: &Roster) -> Option<Event>
-        requires { HasPiece self }
-        ensures event { result ≡ event_named roster.now self }
-        ensures piece { IfSome result HasPieceNumber }
+        requires { HasEventRanges (words_meant self) }
+        ensures event { result ≡ event_named roster.now (words_meant self) }
+        ensures piece { IfSome result HasNumbers }
     {
         match self {
             EventWords::Send { from, to, message } => {

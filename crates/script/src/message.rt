@@ -1,6 +1,6 @@
 ghost use Rattle.std.specs.Prelude.{◌≡◌};
 ghost use Rattle.std.specs.List.{list_all};
-ghost use Rattle.script.specs.Reading.{Gives, hex_of, is_lower_digit};
+ghost use Rattle.script.specs.inside.Readers.{Gives, hex_read, is_lower_digit};
 
 use crate::refusal::{Reason, Stop};
 use events::Body;
@@ -19,9 +19,9 @@ fn are_lower_digits(word: &[u8]) -> bool
 }
 
 /// The bytes of a message that a word spells in hex.
-#[tactic(auto, unfolding(crate::specs::Reading::hex_of))]
+#[tactic(auto, unfolding(crate::specs::inside::Readers::hex_read))]
 pub fn message_bytes(alloc: Global, word: &[u8]) -> Result<Body, Stop>
-    ensures { Gives result (hex_of word.now) }
+    ensures { Gives (λ body. body) result (hex_read word.now) }
 {
     if word == b"-".as_slice() {
         return Ok(Body::from(Vec::new(alloc)));

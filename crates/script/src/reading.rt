@@ -1,9 +1,10 @@
 ghost use Rattle.std.specs.Prelude.{◌≡◌, ◌==◌, ◌∷◌, IfOk, IfSome};
-ghost use Rattle.script.specs.Reading.{Gives, name_of, party_of, stream_of, message_of};
-ghost use Rattle.script.specs.Reading.{numbers_of, piece_of, nothing, version_of, level_of};
-ghost use Rattle.script.specs.Reading.{host_of, send_of, deliver_of, carry_of, form_of};
-ghost use Rattle.script.specs.Reading.{line_of, words_behind};
-ghost use Rattle.script.specs.declared.line.Line.TheVariants.{Version};
+ghost use Rattle.std.specs.Option.{option_map};
+ghost use Rattle.script.specs.inside.Readers.{meant, Reads, Gives, name_read, party_read};
+ghost use Rattle.script.specs.inside.Readers.{stream_read, message_read, numbers_read, piece_read};
+ghost use Rattle.script.specs.inside.Readers.{nothing, version_form, level_form, host_form};
+ghost use Rattle.script.specs.inside.Readers.{send_form, deliver_form, carry_form, form_read};
+ghost use Rattle.script.specs.inside.Readers.{line_read, words_behind};
 
 use crate::categories::categories;
 use crate::cut::cut;
@@ -24,24 +25,24 @@ const RANK_LIMIT: u8 = 7;
 /// The greatest number of a piece.
 const PIECE_LIMIT: u8 = 63;
 
-#[tactic(auto, unfolding(crate::specs::Reading::name_of))]
+#[tactic(auto, unfolding(crate::specs::inside::Readers::name_read))]
 fn level_name(word: &[u8]) -> Option<LevelName>
-    ensures { result ≡ name_of word.now }
+    ensures { result ≡ name_read word.now }
 {
     LevelName::new(word)
 }
 
-#[tactic(auto, unfolding(crate::specs::Reading::party_of))]
+#[tactic(auto, unfolding(crate::specs::inside::Readers::party_read))]
 fn party_word(word: &[u8]) -> Option<PartyWord>
-    ensures { result ≡ party_of word.now }
+    ensures { result ≡ party_read word.now }
 {
     let address = small_number(word, 1, ADDRESS_LIMIT)?;
     Some(PartyWord::Address(address))
 }
 
-#[tactic(auto, unfolding(crate::specs::Reading::stream_of))]
+#[tactic(auto, unfolding(crate::specs::inside::Readers::stream_read))]
 fn stream_word(word: &[u8]) -> Option<StreamWord>
-    ensures { result ≡ stream_of word.now }
+    ensures { result ≡ stream_read word.now }
 {
     let (from, to) = two_parts(word, b'>')?;
     let from = party_word(from)?;
@@ -50,9 +51,9 @@ fn stream_word(word: &[u8]) -> Option<StreamWord>
 }
 
 /// A message: its stream and its number.
-#[tactic(auto, unfolding(crate::specs::Reading::message_of))]
+#[tactic(auto, unfolding(crate::specs::inside::Readers::message_read))]
 fn message_word(word: &[u8]) -> Option<(StreamWord, u32)>
-    ensures { result ≡ message_of word.now }
+    ensures { result ≡ message_read word.now }
 {
     let (stream, number) = two_parts(word, b'#')?;
     let stream = stream_word(stream)?;
@@ -61,9 +62,9 @@ fn message_word(word: &[u8]) -> Option<(StreamWord, u32)>
 }
 
 /// The number of a message, and that of one of its pieces.
-#[tactic(auto, unfolding(crate::specs::Reading::numbers_of))]
+#[tactic(auto, unfolding(crate::specs::inside::Readers::numbers_read))]
 fn numbers_word(word: &[u8]) -> Option<(u32, u8)>
-    ensures { result ≡ numbers_of word.now }
+    ensures { result ≡ numbers_read word.now }
 {
     let (message, piece) = two_parts(word, b'.')?;
     let message = wide_number(message, 0, u32::MAX)?;
@@ -72,9 +73,9 @@ fn numbers_word(word: &[u8]) -> Option<(u32, u8)>
 }
 
 /// A piece: its stream and its numbers.
-#[tactic(auto, unfolding(crate::specs::Reading::piece_of))]
+#[tactic(auto, unfolding(crate::specs::inside::Readers::piece_read))]
 fn piece_word(word: &[u8]) -> Option<(StreamWord, (u32, u8))>
-    ensures { result ≡ piece_of word.now }
+    ensures { result ≡ piece_read word.now }
 {
     let (stream, numbers) = two_parts(word, b'#')?;
     let stream = stream_word(stream)?;
@@ -84,7 +85,7 @@ fn piece_word(word: &[u8]) -> Option<(StreamWord, (u32, u8))>
 
 /// A line of one word.
 fn lone_line(behind: Option<&[u8]>, line: Line) -> Option<Line>
-    ensures { result ≡ nothing line (words_behind behind.entry) }
+    ensures { Reads meant result (nothing (meant line) (words_behind behind.entry)) }
 {
     match behind {
         None => Some(line),
@@ -92,9 +93,9 @@ fn lone_line(behind: Option<&[u8]>, line: Line) -> Option<Line>
     }
 }
 
-#[tactic(auto, unfolding(crate::specs::Reading::version_of))]
+#[tactic(auto, unfolding(crate::specs::inside::Readers::version_form))]
 fn version_line(behind: Option<&[u8]>) -> Option<Line>
-    ensures { result ≡ version_of (words_behind behind.entry) }
+    ensures { Reads meant result (version_form (words_behind behind.entry)) }
 {
     let number = one_word(behind)?;
     if number == b"1".as_slice() {
@@ -104,9 +105,9 @@ fn version_line(behind: Option<&[u8]>) -> Option<Line>
     }
 }
 
-#[tactic(auto, unfolding(crate::specs::Reading::level_of))]
+#[tactic(auto, unfolding(crate::specs::inside::Readers::level_form))]
 fn level_line(behind: Option<&[u8]>) -> Option<Line>
-    ensures { result ≡ level_of (words_behind behind.entry) }
+    ensures { Reads meant result (level_form (words_behind behind.entry)) }
 {
     let (name, rank, cats) = three_words(behind)?;
     let name = level_name(name)?;
@@ -116,9 +117,9 @@ fn level_line(behind: Option<&[u8]>) -> Option<Line>
     Some(Line::Level { name, level })
 }
 
-#[tactic(auto, unfolding(crate::specs::Reading::host_of))]
+#[tactic(auto, unfolding(crate::specs::inside::Readers::host_form))]
 fn host_line(behind: Option<&[u8]>) -> Option<Line>
-    ensures { result ≡ host_of (words_behind behind.entry) }
+    ensures { Reads meant result (host_form (words_behind behind.entry)) }
 {
     let (address, level) = two_words(behind)?;
     let address = small_number(address, 1, ADDRESS_LIMIT)?;
@@ -126,9 +127,9 @@ fn host_line(behind: Option<&[u8]>) -> Option<Line>
     Some(Line::Host { address, level })
 }
 
-#[tactic(auto, unfolding(crate::specs::Reading::deliver_of))]
+#[tactic(auto, unfolding(crate::specs::inside::Readers::deliver_form))]
 fn deliver_line(behind: Option<&[u8]>) -> Option<Line>
-    ensures { result ≡ deliver_of (words_behind behind.entry) }
+    ensures { Reads meant result (deliver_form (words_behind behind.entry)) }
 {
     let (piece, to, at) = three_words(behind)?;
     let (stream, (message, piece)) = piece_word(piece)?;
@@ -144,9 +145,9 @@ fn deliver_line(behind: Option<&[u8]>) -> Option<Line>
     }))
 }
 
-#[tactic(auto, unfolding(crate::specs::Reading::carry_of))]
+#[tactic(auto, unfolding(crate::specs::inside::Readers::carry_form))]
 fn carry_line(behind: Option<&[u8]>) -> Option<Line>
-    ensures { result ≡ carry_of (words_behind behind.entry) }
+    ensures { Reads meant result (carry_form (words_behind behind.entry)) }
 {
     let (message, to, at) = three_words(behind)?;
     let (stream, message) = message_word(message)?;
@@ -161,9 +162,9 @@ fn carry_line(behind: Option<&[u8]>) -> Option<Line>
     }))
 }
 
-#[tactic(auto, unfolding(crate::specs::Reading::send_of))]
+#[tactic(auto, unfolding(crate::specs::inside::Readers::send_form))]
 fn send_line(alloc: Global, behind: Option<&[u8]>) -> Result<Line, Stop>
-    ensures { Gives result (send_of (words_behind behind.entry)) }
+    ensures { Gives meant result (send_form (words_behind behind.entry)) }
 {
     let (from, to, message) = three_words(behind).ok_or(Stop::Refused(Reason::Form))?;
     let from = small_number(from, 1, ADDRESS_LIMIT).ok_or(Stop::Refused(Reason::Form))?;
@@ -174,15 +175,15 @@ fn send_line(alloc: Global, behind: Option<&[u8]>) -> Result<Line, Stop>
 
 /// What was read, or the reason `form` where nothing was.
 fn formed(line: Option<Line>) -> Result<Line, Stop>
-    ensures { Gives result line }
+    ensures { Gives meant result (option_map meant line) }
 {
     line.ok_or(Stop::Refused(Reason::Form))
 }
 
 /// The line of a first word and of what stands behind it.
-#[tactic(auto, unfolding(crate::specs::Reading::form_of))]
+#[tactic(auto, unfolding(crate::specs::inside::Readers::form_read))]
 fn form_line(alloc: Global, first: &[u8], behind: Option<&[u8]>) -> Result<Line, Stop>
-    ensures { Gives result (form_of (first.now ∷ words_behind behind.entry)) }
+    ensures { Gives meant result (form_read (first.now ∷ words_behind behind.entry)) }
 {
     if first == b"dss".as_slice() {
         formed(version_line(behind))
@@ -207,7 +208,7 @@ fn form_line(alloc: Global, first: &[u8], behind: Option<&[u8]>) -> Result<Line,
 
 /// The line that a text spells.
 pub fn read_line(alloc: Global, text: &[u8]) -> Result<Line, Stop>
-    ensures { Gives result (line_of text.now) }
+    ensures { Gives meant result (line_read text.now) }
 {
     match cut(text, b' ') {
         Some((first, behind)) => form_line(alloc, first, Some(behind)),

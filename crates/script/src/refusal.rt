@@ -63,7 +63,7 @@ impl<T: Drop> From<AllocFailed<T>> for Stop {
 }
 
 impl From<RosterStop> for Stop {
-    ghost use Rattle.script.specs.Stages.{stop_of_roster};
+    ghost use Rattle.script.specs.inside.Stages.{stop_of_roster};
 
     ghost from_gives = { λ stop made. made ≡ stop_of_roster stop };
 
@@ -78,7 +78,7 @@ impl From<RosterStop> for Stop {
 }
 
 impl From<ScriptStop> for Stop {
-    ghost use Rattle.script.specs.Stages.{stop_of_script};
+    ghost use Rattle.script.specs.inside.Stages.{stop_of_script};
 
     ghost from_gives = { λ stop made. made ≡ stop_of_script stop };
 

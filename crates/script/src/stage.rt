@@ -3,7 +3,11 @@ ghost use Rattle.levels.specs.Rosters.{with_level};
 ghost use Rattle.levels.specs.declared.level.Sealing.TheVariants.{Clear};
 ghost use Rattle.script.specs.Facts.{Kind, level_line, host_line, event_line};
 ghost use Rattle.script.specs.Reasons.{may_follow};
-ghost use Rattle.script.specs.Stages.{seen, facts_with, HasLevel, HasPiece, HasRanges, Takes, TakesBehind, Steps, Finishes};
+ghost use Rattle.script.specs.Lines as line;
+ghost use Rattle.script.specs.Ranges.{IsAddress, HasEventRanges, HasRanges};
+ghost use Rattle.script.specs.inside.Readers.{words_meant, meant};
+ghost use Rattle.script.specs.inside.Stages.{seen, IsSound, Takes, TakesBehind, Steps};
+ghost use Rattle.script.specs.inside.Stages.{facts_with, Finishes};
 
 use crate::line::{EventWords, Line};
 use crate::reading::read_line;
@@ -29,7 +33,7 @@ pub enum Stage {
 fn add_level(mut roster: Roster, name: LevelName, level: Level) -> Result<Stage, Stop>
     requires clear { roster.sealing ≡ Clear }
     requires rank { level.rank ≤ 7 }
-    ensures { TakesBehind roster [] (Line.Level name level) result }
+    ensures { TakesBehind roster [] (line.Level name level) result }
 {
     roster.add_level(name, level)?;
     Ok(Stage::Levels(roster))
@@ -40,8 +44,8 @@ fn add_level(mut roster: Roster, name: LevelName, level: Level) -> Result<Stage,
 fn add_host(mut roster: Roster, address: u8, level: LevelName) -> Result<Stage, Stop>
     requires clear { roster.sealing ≡ Clear }
     requires levels { 0 < length roster.levels }
-    requires address { (1 ≤ address) × (address ≤ 250) }
-    ensures { TakesBehind roster [] (Line.Host address level) result }
+    requires address { IsAddress address }
+    ensures { TakesBehind roster [] (line.Host address level) result }
 {
     let Some(partition) = roster.find_level(&level) else {
         return Err(Stop::Refused(Reason::Name));
@@ -53,8 +57,9 @@ fn add_host(mut roster: Roster, address: u8, level: LevelName) -> Result<Stage, 
 /// The stage behind a further event line.
 #[tactic(auto, unfolding(crate::specs::Reasons::against))]
 fn add_event(mut script: Script, words: EventWords) -> Result<Stage, Stop>
-    requires { HasPiece words }
-    ensures { TakesBehind script.roster script.events (Line.Event words) result }
+    requires rows { script.rows ≡ [] }
+    requires ranges { HasEventRanges (words_meant words) }
+    ensures { TakesBehind script.roster script.events (line.Event (words_meant words)) result }
 {
     let Some(event) = words.event(script.roster()) else {
         return Err(Stop::Refused(Reason::Name));
@@ -66,7 +71,7 @@ fn add_event(mut script: Script, words: EventWords) -> Result<Stage, Stop>
 impl Stage {
     #[tactic(auto, unfolding(crate::specs::Reasons::against))]
     fn take_version(self) -> Result<Stage, Stop>
-        ensures { Takes (seen self) Line.Version result }
+        ensures { Takes (seen self) line.Version result }
     {
         match self {
             Stage::Nothing => Ok(Stage::Version),
@@ -76,9 +81,9 @@ impl Stage {
 
     #[tactic(auto, unfolding(crate::specs::Reasons::against))]
     fn take_level(self, alloc: Global, name: LevelName, level: Level) -> Result<Stage, Stop>
-        requires level { HasLevel self }
+        requires sound { IsSound self }
         requires rank { level.rank ≤ 7 }
-        ensures { Takes (seen self) (Line.Level name level) result }
+        ensures { Takes (seen self) (line.Level name level) result }
     {
         match self {
             Stage::Version => add_level(Roster::new(alloc, Sealing::Clear), name, level),
@@ -89,9 +94,9 @@ impl Stage {
 
     #[tactic(auto, unfolding(crate::specs::Reasons::against))]
     fn take_host(self, address: u8, level: LevelName) -> Result<Stage, Stop>
-        requires level { HasLevel self }
-        requires address { (1 ≤ address) × (address ≤ 250) }
-        ensures { Takes (seen self) (Line.Host address level) result }
+        requires sound { IsSound self }
+        requires address { IsAddress address }
+        ensures { Takes (seen self) (line.Host address level) result }
     {
         match self {
             Stage::Levels(roster) => add_host(roster, address, level),
@@ -102,8 +107,8 @@ impl Stage {
 
     #[tactic(auto, unfolding(crate::specs::Reasons::against))]
     fn take_begin(self, alloc: Global) -> Result<Stage, Stop>
-        requires { HasLevel self }
-        ensures { Takes (seen self) Line.Begin result }
+        requires { IsSound self }
+        ensures { Takes (seen self) line.Begin result }
     {
         match self {
             Stage::Levels(roster) => Ok(Stage::Begun(Script::start(alloc, roster))),
@@ -114,8 +119,9 @@ impl Stage {
 
     #[tactic(auto, unfolding(crate::specs::Reasons::against))]
     fn take_event(self, words: EventWords) -> Result<Stage, Stop>
-        requires { HasPiece words }
-        ensures { Takes (seen self) (Line.Event words) result }
+        requires sound { IsSound self }
+        requires ranges { HasEventRanges (words_meant words) }
+        ensures { Takes (seen self) (line.Event (words_meant words)) result }
     {
         match self {
             Stage::Begun(script) => add_event(script, words),
@@ -126,7 +132,8 @@ impl Stage {
 
     #[tactic(auto, unfolding(crate::specs::Reasons::against))]
     fn take_end(self) -> Result<Stage, Stop>
-        ensures { Takes (seen self) Line.End result }
+        requires { IsSound self }
+        ensures { Takes (seen self) line.End result }
     {
         match self {
             Stage::Begun(script) => Ok(Stage::Ended(script)),
@@ -136,9 +143,9 @@ impl Stage {
     }
 
     fn take(self, alloc: Global, line: Line) -> Result<Stage, Stop>
-        requires level { HasLevel self }
-        requires ranges { HasRanges line }
-        ensures { Takes (seen self) line result }
+        requires sound { IsSound self }
+        requires ranges { HasRanges (meant line) }
+        ensures { Takes (seen self) (meant line) result }
     {
         match line {
             Line::Version => self.take_version(),
@@ -152,7 +159,7 @@ impl Stage {
 
     /// The stage behind one more line.
     pub fn step(self, alloc: Global, text: &[u8]) -> Result<Stage, Stop>
-        requires { HasLevel self }
+        requires { IsSound self }
         ensures { Steps (seen self) text.now result }
     {
         let line = read_line(alloc, text)?;
@@ -161,6 +168,7 @@ impl Stage {
 
     /// The script, where the text ends here.
     pub fn finish(self, tail: &[u8]) -> Result<Script, Reason>
+        requires { IsSound self }
         ensures { Finishes (seen self) tail.now result }
     {
         if !tail.is_empty() {

@@ -1,5 +1,5 @@
 ghost use Rattle.std.specs.Prelude.{◌≡◌};
-ghost use Rattle.script.specs.Reading.{Reads, as_one, as_two, as_three, parts_at, words_behind};
+ghost use Rattle.script.specs.inside.Readers.{Reads, as_one, as_two, as_three, parts_at, words_behind};
 
 use crate::cut::cut;
 

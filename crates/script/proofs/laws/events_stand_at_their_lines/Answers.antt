@@ -1,4 +1,4 @@
-use Rattle.script.proofs.Again.{events_stand}
+use Rattle.script.proofs.Standing.{events_stand}
 use Rattle.script.proofs.laws.events_stand_at_their_lines.Goals as goal
 
 pub returns : goal.returns

@@ -1,6 +1,6 @@
 use Rattle.std.proofs.Common.{◌≡◌, ◌≤◌, drop}
 use Rattle.std.specs.Str.{all_ascii_digits}
-use Rattle.script.specs.Reading.{value_on}
+use Rattle.script.specs.inside.Readers.{value_on}
 use Rattle.script.proofs.number.number.Given as goal
 
 -- the digits that are left make of `n` what all digits make

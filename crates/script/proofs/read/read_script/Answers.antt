@@ -1,14 +1,24 @@
 use Rattle.std.proofs.Common.{◌≤◌, length, arith}
-use Rattle.script.specs.Stages.{seen}
-use Rattle.script.specs.Reasons.{parts}
-use Rattle.script.proofs.Looping.{goes_on_by, stops_by, ends_badly_by, finishes_by}
+use Rattle.script.specs.inside.Stages.{seen}
+use Rattle.script.proofs.Looping.{goes_on_by, stops_by, ends_badly_by, finishes_by, whole_text, whole_today, whole_hosts}
+use Rattle.script.proofs.Reached.{reached_none}
 use Rattle.script.proofs.read.read_script.Goals as goal
+
+pub loop-text-init : goal.loop-text-init
+loop-text-init c = record {
+  reached = reached_none c.args.bytes.now;
+  sound = tt;
+  counted = omega arith;
+  one = omega arith;
+}
 
 pub loop-text-preserved : goal.loop-text-preserved
 loop-text-preserved c = record {
-  reached = goes_on_by (parts c.args.bytes.now) c.loop-text.line c.loop-text.rest.now c.in-Some.behind.now c.in-Some.text.now (seen c.loop-text.stage) c.in-Ok.next
-      c.loop-text.invariant.one c.loop-text.invariant.reached c.in-Some.ensures.parts c.in-Ok.ensures;
-  level = c.in-Ok.ensures.4;
+  reached = goes_on_by c.args.bytes.now c.loop-text.line c.loop-text.rest.now c.in-Some.behind.now
+      c.in-Some.text.now
+      (seen c.loop-text.stage) c.in-Ok.next c.loop-text.invariant.one c.loop-text.invariant.reached
+      c.in-Some.ensures.parts c.in-Ok.ensures;
+  sound = c.in-Ok.ensures.4;
   counted = omega (arith, c.in-Some.ensures.shorter, c.loop-text.invariant.counted);
   one = omega arith;
 }
@@ -16,21 +26,29 @@ loop-text-preserved c = record {
 pub returns-in-Err-clause-exact : goal.returns-in-Err-clause-exact
 returns-in-Err-clause-exact c =
     let short : length c.args.bytes.now ≤ 16777216 = omega arith in
-    rw c.at_line-in-Err.ensures (stops_by c.args.bytes.now c.loop-text.line c.loop-text.rest.now c.in-Some.behind.now c.in-Some.text.now (seen c.loop-text.stage) c.in-Err.stop
-    short c.loop-text.invariant.one c.loop-text.invariant.reached c.in-Some.ensures.parts c.in-Err.ensures)
+    rw c.at_line-in-Err.ensures (stops_by c.args.bytes.now c.loop-text.line c.loop-text.rest.now
+    c.in-Some.behind.now c.in-Some.text.now
+    (seen c.loop-text.stage) c.in-Err.stop short c.loop-text.invariant.one
+    c.loop-text.invariant.reached c.in-Some.ensures.parts c.in-Err.ensures)
 
-pub returns-in-Ok-finish-clause-exact : goal.returns-in-Ok-finish-clause-exact
-returns-in-Ok-finish-clause-exact c =
+pub returns-in-Ok-finish : goal.returns-in-Ok-finish
+returns-in-Ok-finish c =
     let short : length c.args.bytes.now ≤ 16777216 = omega arith in
-    (finishes_by c.args.bytes.now c.loop-text.line c.loop-text.rest.now (seen c.loop-text.stage) c.in-Ok-finish.script short c.loop-text.invariant.reached c.in_default.ensures.parts c.in-Ok-finish.ensures).exact
-
-pub returns-in-Ok-finish-clause-text : goal.returns-in-Ok-finish-clause-text
-returns-in-Ok-finish-clause-text c =
-    let short : length c.args.bytes.now ≤ 16777216 = omega arith in
-    (finishes_by c.args.bytes.now c.loop-text.line c.loop-text.rest.now (seen c.loop-text.stage) c.in-Ok-finish.script short c.loop-text.invariant.reached c.in_default.ensures.parts c.in-Ok-finish.ensures).text
+    let of = finishes_by c.args.bytes.now c.loop-text.line c.loop-text.rest.now
+    (seen c.loop-text.stage) c.in-Ok-finish.script
+    short c.loop-text.invariant.reached c.in-Ok-finish.ensures in
+    record {
+      exact = of;
+      text = whole_text c.args.bytes.now c.in-Ok-finish.script of;
+      today = whole_today c.args.bytes.now c.in-Ok-finish.script of;
+      hosts = whole_hosts c.args.bytes.now c.in-Ok-finish.script of;
+    }
 
 pub returns-in-Err-finish-clause-exact : goal.returns-in-Err-finish-clause-exact
 returns-in-Err-finish-clause-exact c =
     let short : length c.args.bytes.now ≤ 16777216 = omega arith in
-    rw c.at_line-in-Err-finish.ensures (ends_badly_by c.args.bytes.now c.loop-text.line c.loop-text.rest.now (seen c.loop-text.stage) c.in-Err-finish.reason
-    short c.loop-text.invariant.one c.loop-text.invariant.reached c.in_default.ensures.parts c.in-Err-finish.ensures)
+    rw c.at_line-in-Err-finish.ensures
+    (ends_badly_by c.args.bytes.now c.loop-text.line c.loop-text.rest.now
+    (seen c.loop-text.stage)
+    c.in-Err-finish.reason short c.loop-text.invariant.one c.loop-text.invariant.reached
+    c.in_default.ensures.parts c.in-Err-finish.ensures)

@@ -1,5 +1,5 @@
 -- How far the reading of a text has come.
-use Rattle.std.specs.Prelude.{◌≡◌, ◌<◌, ◌≤◌, ℕ, List, [], ◌∷◌, ◌++◌, length, Bool, true, false, ◌||◌, Option, Some, None, Result, Ok, Err}
+use Rattle.std.specs.Prelude.{◌≡◌, ◌<◌, ℕ, List, [], ◌∷◌, ◌++◌, length, Bool, true, false, ◌||◌, Option, Some, None, Result, Ok, Err}
 use Rattle.levels.specs.Rosters.{RosterView, level_named, with_level, with_host}
 use Rattle.levels.specs.declared.level.Partition.{Partition}
 use Rattle.levels.specs.declared.level.Sealing.TheVariants.{Clear}
@@ -7,13 +7,11 @@ use Rattle.levels.specs.declared.roster.RosterStop.{RosterStop}
 use Rattle.levels.specs.declared.roster.RosterStop.TheVariants as roster_stop
 use Rattle.events.specs.declared.script.ScriptStop.{ScriptStop}
 use Rattle.events.specs.declared.script.ScriptStop.TheVariants as script_stop
-use Rattle.script.specs.declared.line.EventWords.{EventWords}
-use Rattle.script.specs.declared.line.EventWords.TheVariants as said
-use Rattle.script.specs.declared.refusal.Reason.TheVariants.{Name, Twice, Many, Key}
+use Rattle.script.specs.declared.refusal.Reason.TheVariants.{Form, Name, Twice, Many, Key, End}
 use Rattle.events.specs.declared.event.Event.{Event}
 use Rattle.events.specs.ScriptView.{ScriptView}
-use Rattle.script.specs.declared.line.Line.{Line}
-use Rattle.script.specs.declared.line.Line.TheVariants as line
+use Rattle.script.specs.Lines.{Line}
+use Rattle.script.specs.Lines as line
 use Rattle.script.specs.declared.refusal.Reason.{Reason}
 use Rattle.script.specs.declared.refusal.Stop.{Stop}
 use Rattle.script.specs.declared.refusal.Stop.TheVariants as stop
@@ -21,14 +19,20 @@ use Rattle.script.specs.declared.refusal.ScriptRefused.{ScriptRefused}
 use Rattle.script.specs.declared.refusal.ScriptRefused.TheVariants as whole
 use Rattle.script.specs.declared.stage.Stage.{Stage}
 use Rattle.script.specs.declared.stage.Stage.TheVariants.{Nothing, Version, Levels, Hosts, Begun, Events, Ended}
-use Rattle.script.specs.Reading.{line_of}
+use Rattle.script.specs.inside.Readers.{line_read}
 use Rattle.script.specs.Facts.{Kind, version_line, level_line, host_line, begin_line, event_line, end_line, kind_of, is_end, as_event, roster_with, Facts}
-use Rattle.script.specs.Reasons.{may_follow, against, reason_of, at_end}
+use Rattle.script.specs.Reasons.{may_follow, against}
 
--- the number of a piece is at most 63
-abbrev pub HasPiece : EventWords → Type 0
-HasPiece (said.Deliver stream message piece at) = piece ≤ 63
-HasPiece _ = Unit {0}
+-- the first reason against what was read of a line
+abbrev pub reason_of : Facts → Option Line → Option Reason
+reason_of so_far None = Some Form
+reason_of so_far (Some line') = against so_far line'
+
+-- the reason against what stands behind the last newline, where an `end` was read or not
+abbrev pub at_end : Bool → List ℕ → Option Reason
+at_end ended (c ∷ tail) = Some Form
+at_end true [] = None
+at_end false [] = Some End
 
 -- how the refusal of a level, a host or an event stops the reading
 abbrev pub stop_of_roster : RosterStop → Stop
@@ -43,7 +47,8 @@ stop_of_script script_stop.Many = stop.Refused Many
 stop_of_script script_stop.OutOfMemory = stop.OutOfMemory
 
 abbrev pub facts_with : Kind → RosterView → List Event → Bool → Facts
-facts_with last roster events ended = record { last = Some last; roster = roster; events = events; ended = ended }
+facts_with last roster events ended =
+    record { last = Some last; roster = roster; events = events; ended = ended }
 
 -- what the lines so far said, as a stage has it
 abbrev pub seen : Stage → Facts
@@ -55,11 +60,14 @@ seen (Begun script) = facts_with begin_line script.roster script.events false
 seen (Events script) = facts_with event_line script.roster script.events false
 seen (Ended script) = facts_with end_line script.roster script.events true
 
--- a stage past the first level has one, and its roster is of clear sealing
-abbrev pub HasLevel : Stage → Type 0
-HasLevel (Levels roster) = (0 < length roster.levels) × (roster.sealing ≡ Clear)
-HasLevel (Hosts roster) = (0 < length roster.levels) × (roster.sealing ≡ Clear)
-HasLevel _ = Unit {0}
+-- what holds of a stage: its roster has a level and is of clear sealing, its script has no plan
+abbrev pub IsSound : Stage → Type 0
+IsSound (Levels roster) = (0 < length roster.levels) × (roster.sealing ≡ Clear)
+IsSound (Hosts roster) = (0 < length roster.levels) × (roster.sealing ≡ Clear)
+IsSound (Begun script) = script.rows ≡ []
+IsSound (Events script) = script.rows ≡ []
+IsSound (Ended script) = script.rows ≡ []
+IsSound _ = Unit {0}
 
 abbrev pub with_some : {A : Type 0} → List A → Option A → List A
 with_some xs None = xs
@@ -83,32 +91,32 @@ after so_far line' = record {
   ended = so_far.ended || is_end line';
 }
 
--- the numbers of a line are in the ranges of their words
-abbrev pub HasRanges : Line → Type 0
-HasRanges (line.Level name level) = level.rank ≤ 7
-HasRanges (line.Host address level) = (1 ≤ address) × (address ≤ 250)
-HasRanges (line.Event words) = HasPiece words
-HasRanges _ = Unit {0}
-
 -- A line is taken where nothing is against it; else it is refused for the first reason.
 abbrev pub Takes : Facts → Line → Result Stage Stop → Type 0
-Takes so_far line' (Ok new) = (against so_far line' ≡ None) × (seen new ≡ after so_far line') × HasLevel new
+Takes so_far line' (Ok new) =
+    (against so_far line' ≡ None) × (seen new ≡ after so_far line') × IsSound new
 Takes so_far line' (Err (stop.Refused reason)) = against so_far line' ≡ Some reason
 Takes so_far line' (Err stop.OutOfMemory) = Unit {0}
 
 -- The same behind any line that such a line may follow.
 abbrev pub TakesBehind : RosterView → List Event → Line → Result Stage Stop → Type 0
-TakesBehind roster events line' result = (last : Kind) → may_follow (Some last) (kind_of line') ≡ true → Takes (facts_with last roster events false) line' result
+TakesBehind roster events line' result =
+    (last : Kind) → may_follow (Some last) (kind_of line') ≡ true
+    → Takes (facts_with last roster events false) line' result
 
 -- the same of the text of a line
 abbrev pub Steps : Facts → List ℕ → Result Stage Stop → Type 0
-Steps so_far text (Ok new) = (line' : Line) × (line_of text ≡ Some line') × (against so_far line' ≡ None) × (seen new ≡ after so_far line') × HasLevel new
-Steps so_far text (Err (stop.Refused reason)) = reason_of so_far (line_of text) ≡ Some reason
+Steps so_far text (Ok new) =
+    (line' : Line) × (line_read text ≡ Some line') × (against so_far line' ≡ None)
+    × (seen new ≡ after so_far line') × IsSound new
+Steps so_far text (Err (stop.Refused reason)) = reason_of so_far (line_read text) ≡ Some reason
 Steps so_far text (Err stop.OutOfMemory) = Unit {0}
 
 -- A script is all that was said where nothing is against the end of the text.
 abbrev pub Finishes : Facts → List ℕ → Result ScriptView Reason → Type 0
-Finishes so_far tail (Ok script) = (at_end so_far.ended tail ≡ None) × (script.roster ≡ so_far.roster) × (script.events ≡ so_far.events)
+Finishes so_far tail (Ok script) =
+    (at_end so_far.ended tail ≡ None) × (script.roster ≡ so_far.roster) × (script.rows ≡ [])
+    × (script.events ≡ so_far.events)
 Finishes so_far tail (Err reason) = at_end so_far.ended tail ≡ Some reason
 
 -- why a text gave no script, where a line stopped the reading
