@@ -207,8 +207,8 @@ completes_when messages h before now x m g g' is =
     let whole_now = whole_when messages (x ∷ h) now x.message m g' is in
     let whole_before = whole_when messages h before x.message m g is in
     let later = g.later x.message in
-    ap (λ b. b && not (is_whole h x.message) && not (list.has_later h x.message)) whole_now
-    ∙ ap (λ b. has_all (Some m) now x.message && not b && not (list.has_later h x.message)) whole_before
+    ap (λ b. b && not (is_whole h x.message) && not (list.has_newer h x.message)) whole_now
+    ∙ ap (λ b. has_all (Some m) now x.message && not b && not (list.has_newer h x.message)) whole_before
     ∙ ap (λ b. has_all (Some m) now x.message && not (has_all (Some m) before x.message) && not b) (sym later)
 
 -- the line of a piece that completes its message has the message
@@ -218,7 +218,7 @@ line_when : (messages : List (List ℕ)) (h : List PieceView) (now : List (ℕ �
 line_when messages h now x m hold g' is =
     elim (bool_cases (completes h x)) [
       | inl done ↦
-          let whole : is_whole (x ∷ h) x.message ≡ true = and_left (is_whole (x ∷ h) x.message) (not (is_whole h x.message)) (not (list.has_later h x.message)) done in
+          let whole : is_whole (x ∷ h) x.message ≡ true = and_left (is_whole (x ∷ h) x.message) (not (is_whole h x.message)) (not (list.has_newer h x.message)) done in
           let bytes : body (x ∷ h) x.message ≡ m = body_when messages (x ∷ h) now x.message m hold g' is whole in
           rw (done, bytes) refl
       | inr unfinished ↦ rw unfinished refl

@@ -9,8 +9,8 @@ use Rattle.levels.specs.Rosters.{RosterView, partition_of, is_partner}
 use Rattle.frame.specs.Pieces.{PieceView, pieces, piece_bytes, piece_of, used_bytes}
 use Rattle.events.specs.declared.event.Event.{Event}
 use Rattle.lattice_machine.specs.declared.line.OutLine.{OutLine}
-use Rattle.window.specs.Windows.{HoldsIn}
-use Rattle.window.specs.declared.reception.Reception.{Reception}
+use Rattle.window.specs.WindowView.{PartnerView}
+use Rattle.window.specs.Windows.{LeftIn}
 use Rattle.host_side.specs.HostView.{HostView}
 use Rattle.host_side.specs.Hosts.{next_of, is_for, StandsFor}
 use Rattle.engine.specs.declared.pieces.PieceName.{PieceName}
@@ -112,7 +112,7 @@ heard_more roster past a s arrived arrived' told told' old new x d hears from pa
       heard = λ r. cond (r == s) (x ∷ d.heard s) (d.heard r);
       stands = λ r is. stands_at new.host r (x ∷ d.heard s) (d.heard r) (r == s)
           (λ same. let e : x.from ≡ r = from ∙ sym (grind (arith, nat_tests, same)) in subst (λ u. StandsFor new.host u (x ∷ d.heard s)) e joined.0)
-          (λ differ. let apart : r ≢ x.from = λ e. grind (arith, nat_tests, differ, e, from) in subst (λ (o : Option Reception). HoldsIn o (d.heard r)) (sym (hears.others r apart)) (d.stands r is));
+          (λ differ. let apart : r ≢ x.from = λ e. grind (arith, nat_tests, differ, e, from) in subst (λ (o : Option PartnerView). LeftIn (d.heard r) o) (sym (hears.others r apart)) (d.stands r is));
       genuine = λ r. genuine_at (sent_between roster past r a) (x ∷ d.heard s) (d.heard r) (arrived' r) (r == s)
           (λ same. let e : s ≡ r = grind (arith, nat_tests, same) in subst (λ u. AreGenuine (sent_between roster past u a) (x ∷ d.heard s) (arrived' u)) e gained.0)
           (λ differ. let apart : r ≢ s = λ e. grind (arith, nat_tests, differ, e) in subst (AreGenuine (sent_between roster past r a) (d.heard r)) (sym (others r apart)) (d.genuine r));

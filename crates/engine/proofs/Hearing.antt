@@ -1,5 +1,5 @@
 -- The line of a message that was given.
-use Rattle.std.proofs.Common.{◌≡◌, ℕ, List, [], ◌∷◌, Bool, true, false, Some, None, length, take, drop, ◌∙◌, ap, cond}
+use Rattle.std.proofs.Common.{◌≡◌, ℕ, List, [], ◌∷◌, Bool, true, false, Some, None, length, take, drop, refl, ◌∙◌, ap, cond}
 use Rattle.std.proofs.Math.Seq.{take-append_seam}
 use Rattle.std.proofs.lemmas.Option.{same_Some}
 use Rattle.levels.specs.declared.level.Party.TheVariants.{Host}
@@ -7,6 +7,7 @@ use Rattle.frame.specs.Pieces.{PieceView}
 use Rattle.window.specs.ListRule.{completes, body}
 use Rattle.host_side.specs.Hosts.{given_at, with_front, out_after}
 use Rattle.host_side.specs.declared.host.Given.{Given}
+use Rattle.lattice_machine.specs.declared.line.OutLine.{OutLine}
 use Rattle.lattice_machine.specs.declared.line.OutLine.TheVariants.{From}
 use Rattle.engine.specs.Genuine.{lines_of_piece}
 
@@ -26,3 +27,11 @@ pub line_of_given : (h : List PieceView) (x : PieceView) (before after : List �
     → Some given ≡ given_at h x → after ≡ out_after before h x
     → From (Host given.from) (take given.length after) ∷ [] ≡ lines_of_piece h x
 line_of_given h x before after given is out = line_of (completes h x) x (body (x ∷ h) x.message) before after given is out
+
+no_line : (b : Bool) (given : Given) (line : OutLine) → None ≡ cond b (Some given) None → cond b (line ∷ []) [] ≡ []
+no_line true given line is = absurd cc
+no_line false given line is = refl
+
+-- a piece that completes no message has no line
+pub no_line_of : (h : List PieceView) (x : PieceView) → None ≡ given_at h x → lines_of_piece h x ≡ []
+no_line_of h x is = no_line (completes h x) _ _ is

@@ -38,6 +38,17 @@ pub lines_told : (roster : RosterView) (past : List Event) (a : ℕ) (desks : Li
     → get_or (map lines_in desks) a [] ≡ told_by roster past (Host a)
 lines_told roster past a desks within known stand = lines_at desks a ∙ lines_stand roster past a (desk_at desks a) known (stand a within)
 
+no_lines : (roster : RosterView) (past : List Event) (a : ℕ) (slot : Option DeskView) → is_known roster (Host a) ≡ false
+    → SlotStands roster past a slot → lines_in slot ≡ []
+no_lines roster past a None stranger stands = refl
+no_lines roster past a (Some desk) stranger stands = absurd (not_both (is_known roster (Host a)) stands.0 stranger)
+
+-- an address that is no host's has no lines
+pub none_told : (roster : RosterView) (past : List Event) (a : ℕ) (desks : List (Option DeskView)) → a < 256
+    → is_known roster (Host a) ≡ false → DesksStand roster past desks → get_or (map lines_in desks) a [] ≡ []
+none_told roster past a desks within stranger stand =
+    lines_at desks a ∙ no_lines roster past a (desk_at desks a) stranger (stand a within)
+
 -- the law of the low part, as the machine's crate states it
 abbrev pub OnlyLowCounts : Type 0
 OnlyLowCounts = (roster : RosterView) (level : Level) (events : List Event) (r : Party) → level_of roster r ≡ Some level → told roster events r ≡ told roster (low roster level events) r

@@ -1,7 +1,7 @@
 ghost use Rattle.std.specs.Prelude.{◌≡◌, ℕ, ◌<◌, ◌≤◌, [], length, IfOk, OnOk, true, false};
 ghost use Rattle.window.specs.Windows.{AreDifferent};
 ghost use Rattle.host_side.specs.Sending.{send_answer, first_number};
-ghost use Rattle.host_side.specs.Hosts.{is_partner, next_of, is_for, StandsFor};
+ghost use Rattle.host_side.specs.Hosts.{has_stream, next_of, is_for, StandsFor};
 ghost use Rattle.engine.specs.Desks.{after_send, number_of, Hears};
 
 use events::Body;
@@ -40,7 +40,7 @@ impl Desk {
         ensures address { IfOk result (λ desk. desk.host.address ≡ address) }
         ensures partition { IfOk result (λ desk. desk.host.partition ≡ partition) }
         ensures numbers { IfOk result (λ desk. (a : ℕ) → a < 256 → next_of desk.host a ≡ first_number partners.now 0 a) }
-        ensures stands { IfOk result (λ desk. (a : ℕ) → a < 256 → is_partner desk.host a ≡ true → StandsFor desk.host a []) }
+        ensures stands { IfOk result (λ desk. (a : ℕ) → a < 256 → has_stream desk.host a ≡ true → StandsFor desk.host a []) }
         ensures lines { IfOk result (λ desk. desk.lines ≡ []) }
     {
         let side = HostSide::open(alloc, address, partition, partners)?;

@@ -1,4 +1,4 @@
-ghost use Rattle.std.specs.Prelude.{◌≡◌, ℕ, ◌<◌, List, [], ◌∷◌, length, reverse, OnOk, IfOk, true};
+ghost use Rattle.std.specs.Prelude.{◌≡◌, ℕ, ◌<◌, List, [], ◌∷◌, length, reverse, OnOk, IfOk, true, false};
 ghost use Rattle.std.specs.List.{AllByRecursion};
 ghost use Rattle.levels.specs.declared.level.Party.TheVariants.{Host};
 ghost use Rattle.levels.specs.Rosters.{partition_of, level_of};
@@ -152,6 +152,8 @@ impl Engine {
     pub fn run<R: Threads>(self, rt: &R, alloc: Global) -> Result<Report, AllocError>
         requires { AllByRecursion IsBetweenHosts self.events }
         ensures script { IfOk result (λ report. report.script ≡ self) }
+        ensures strangers { IfOk result (λ report. (a : ℕ) → a < 256 →
+            is_known self.roster (Host a) ≡ false → lines_of report a ≡ []) }
         ensures lines { IfOk result (λ report. (a : ℕ) → is_known self.roster (Host a) ≡ true → lines_of report a ≡ told_within self.roster self.events (Host a) (level_of self.roster (Host a))) }
     {
         only_low_events_count();

@@ -8,6 +8,7 @@ mod network;
 mod pieces;
 
 pub use engine::{Engine, Report};
+pub use lattice_machine::OutLine;
 
 #[cfg(test)]
 mod tests;

@@ -1,4 +1,4 @@
 pub mod Sending
 pub mod HostView
-pub mod HostInside
 pub mod Hosts
+pub mod inside

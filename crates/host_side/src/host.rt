@@ -2,7 +2,7 @@ ghost use Rattle.std.specs.Prelude.{◌≡◌, ℕ, ◌≤◌, ◌<◌, ◌+◌,
 ghost use Rattle.frame.specs.Pieces.{PieceView};
 ghost use Rattle.window.specs.Windows.{AreDifferent, SameElsewhere};
 ghost use Rattle.host_side.specs.Sending.{send_answer, first_number};
-ghost use Rattle.host_side.specs.Hosts.{is_partner, next_of, with_next, is_for, StandsFor, given_at, out_after, SameNames};
+ghost use Rattle.host_side.specs.Hosts.{has_stream, next_of, with_next, is_for, StandsFor, given_at, out_after, SameNames};
 ghost use Rattle.std.proofs.Math.ListN.{get_or};
 
 use frame::{MESSAGE_LIMIT, Piece, SendRefused};
@@ -10,7 +10,8 @@ use std::alloc::{AllocError, Global};
 use std::marker::Model;
 use window::{Taken, Window};
 
-/// A message that was given: its sender's address, its number in the stream, and how many bytes it has.
+/// A message that was given: its sender's address, its number in the stream, and how many bytes it
+/// has.
 #[derive(Clone, Copy, Debug, PartialEq, Eq)]
 pub struct Given {
     pub from: u8,
@@ -33,7 +34,7 @@ impl Model for HostSide {
 
     ghost Value = { HostView };
 
-    ghost use Rattle.host_side.specs.HostInside.{view_of, IsHostSide};
+    ghost use Rattle.host_side.specs.inside.Kept.{view_of, IsHostSide};
 
     ghost view = { view_of };
 
@@ -43,7 +44,8 @@ impl Model for HostSide {
 /// The first number of the stream to each partner.
 fn first_numbers(alloc: Global, partners: &[u8], first: u32) -> Result<Vec<Option<u32>>, AllocError>
     ensures count { IfOk result (λ streams. length streams.items ≡ 256) }
-    ensures numbers { IfOk result (λ streams. (a : ℕ) → a < 256 → get_or streams.items a None ≡ first_number partners.now first a) }
+    ensures numbers { IfOk result (λ streams. (a : ℕ) → a < 256 →
+        get_or streams.items a None ≡ first_number partners.now first a) }
 {
     let mut streams = Vec::with_capacity(alloc, 256)?;
     for address in 0..256u16 {
@@ -65,8 +67,10 @@ impl HostSide {
         requires different { AreDifferent partners.now }
         ensures address { IfOk result (λ host. host.address ≡ address) }
         ensures partition { IfOk result (λ host. host.partition ≡ partition) }
-        ensures numbers { IfOk result (λ host. (a : ℕ) → a < 256 → next_of host a ≡ first_number partners.now 0 a) }
-        ensures stands { IfOk result (λ host. (a : ℕ) → a < 256 → is_partner host a ≡ true → StandsFor host a []) }
+        ensures numbers { IfOk result
+            (λ host. (a : ℕ) → a < 256 → next_of host a ≡ first_number partners.now 0 a) }
+        ensures stands { IfOk result
+            (λ host. (a : ℕ) → a < 256 → has_stream host a ≡ true → StandsFor host a []) }
     {
         HostSide::open_at(alloc, address, partition, partners, 0)
     }
@@ -83,8 +87,10 @@ impl HostSide {
         requires different { AreDifferent partners.now }
         ensures address { IfOk result (λ host. host.address ≡ address) }
         ensures partition { IfOk result (λ host. host.partition ≡ partition) }
-        ensures numbers { IfOk result (λ host. (a : ℕ) → a < 256 → next_of host a ≡ first_number partners.now first a) }
-        ensures stands { IfOk result (λ host. (a : ℕ) → a < 256 → is_partner host a ≡ true → StandsFor host a []) }
+        ensures numbers { IfOk result
+            (λ host. (a : ℕ) → a < 256 → next_of host a ≡ first_number partners.now first a) }
+        ensures stands { IfOk result
+            (λ host. (a : ℕ) → a < 256 → has_stream host a ≡ true → StandsFor host a []) }
     {
         let streams = first_numbers(alloc, partners, first)?;
         let window = Window::open(alloc, partners)?;
@@ -101,6 +107,7 @@ impl HostSide {
         ensures answer { result ≡ send_answer (next_of self.old to) (length message.now) }
         ensures sent { IfOk result (λ number. self.new ≡ with_next self.old to (number + 1)) }
         ensures refused { OnErr result (self.new ≡ self.old) }
+        ensures room { self.new.room ≡ self.old.room }
     {
         let stream = self.streams[usize::from(to)];
         let Some(next) = stream else {
@@ -128,13 +135,20 @@ impl HostSide {
     /// Takes a piece. Where it completes its message, writes the message to the front of `out`.
     pub fn receive(&mut self, piece: &Piece, out: &mut [u8; 5632]) -> Option<Given>
         requires { is_for self.old piece.now ≡ true }
-        ensures stands { (h : List PieceView) → StandsFor self.old piece.now.from h → StandsFor self.new piece.now.from (piece.now ∷ h) × (result ≡ given_at h piece.now) × (out.new ≡ out_after out.old h piece.now) }
+        ensures stands { (h : List PieceView) → StandsFor self.old piece.now.from h →
+            StandsFor self.new piece.now.from (piece.now ∷ h) }
+        ensures answer { (h : List PieceView) → StandsFor self.old piece.now.from h →
+            result ≡ given_at h piece.now }
+        ensures written { (h : List PieceView) → StandsFor self.old piece.now.from h →
+            out.new ≡ out_after out.old h piece.now }
         ensures none { IfNone result (out.new ≡ out.old) }
-        ensures rest { IfSome result (λ given. drop given.length out.new ≡ drop given.length out.old) }
+        ensures rest { IfSome result
+            (λ given. drop given.length out.new ≡ drop given.length out.old) }
         ensures short { IfSome result (λ given. given.length ≤ 5632) }
         ensures names { SameNames self.old self.new }
         ensures numbers { self.new.streams ≡ self.old.streams }
         ensures others { SameElsewhere self.old.window self.new.window piece.now.from }
+        ensures room { self.new.room ≡ self.old.room }
     {
         let from = piece.from();
         match self.window.take(from, piece) {

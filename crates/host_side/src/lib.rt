@@ -1,4 +1,5 @@
-//! The side of a unit that speaks to the host: it numbers what the host sends, and gives what arrives whole.
+//! The side of a unit that speaks to the host: it numbers what the host sends, and gives what
+//! arrives whole.
 #![tactic(auto)]
 
 mod host;

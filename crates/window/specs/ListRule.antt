@@ -1,5 +1,6 @@
--- When a list of pieces of one sender gives a message. The list may hold any pieces at all; the newest comes first.
-use Rattle.std.specs.Prelude.{ℕ, ◌+◌, List, [], ◌∷◌, Bool, false, not, nat_lt, ◌==◌, ◌&&◌, Option, Some, None, if◌then◌else◌, unwrap_or}
+-- When a list of pieces of one sender gives a message. The list may hold any pieces at all; the
+-- newest comes first.
+use Rattle.std.specs.Prelude.{ℕ, ◌+◌, List, [], ◌∷◌, Bool, false, not, nat_lt, ◌==◌, ◌&&◌, Option, Some, None, if◌then◌else◌, unwrap_or, map}
 use Rattle.std.specs.List.{list_any, list_all, range_with_len, flat_map}
 use Rattle.frame.specs.Pieces.{PieceView, used_bytes}
 
@@ -33,18 +34,29 @@ is_whole_to h j (Some last) = list_all (is_held h j last) (places_to last)
 abbrev pub is_whole : List PieceView → ℕ → Bool
 is_whole h j = is_whole_to h j (last_of h j)
 
--- whether there is a piece of a message greater than j
-abbrev pub has_later : List PieceView → ℕ → Bool
-has_later h j = list_any (λ x. nat_lt j x.message) h
+-- whether there is a piece of a message with a greater number than j
+abbrev pub has_newer : List PieceView → ℕ → Bool
+has_newer h j = list_any (λ x. nat_lt j x.message) h
 
--- whether the next piece completes its message: it is whole now, was not before, and no later message has begun
+-- whether the next piece completes its message: it is whole now, was not before, and no newer
+-- message has begun
 abbrev pub completes : List PieceView → PieceView → Bool
-completes h x = is_whole (x ∷ h) x.message && not (is_whole h x.message) && not (has_later h x.message)
+completes h x =
+    is_whole (x ∷ h) x.message && not (is_whole h x.message) && not (has_newer h x.message)
 
 -- the bytes of the first piece at place i of message j
 abbrev pub bytes_at : List PieceView → ℕ → ℕ → ℕ → Option (List ℕ)
 bytes_at [] j last i = None
-bytes_at (x ∷ h) j last i = or_else (bytes_at h j last i) (if is_at j last i x then Some (used_bytes x) else None)
+bytes_at (x ∷ h) j last i =
+    or_else (bytes_at h j last i) (if is_at j last i x then Some (used_bytes x) else None)
+
+abbrev pub places_held_to : List PieceView → ℕ → Option ℕ → List (Option (List ℕ))
+places_held_to h j None = []
+places_held_to h j (Some last) = map (bytes_at h j last) (places_to last)
+
+-- the places of message j, each with the bytes of its first piece, or none where none came
+abbrev pub places_held : List PieceView → ℕ → List (Option (List ℕ))
+places_held h j = places_held_to h j (last_of h j)
 
 abbrev pub body_to : List PieceView → ℕ → Option ℕ → List ℕ
 body_to h j None = []

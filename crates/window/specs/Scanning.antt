@@ -13,6 +13,6 @@ items_in None = None
 items_in (Some bytes) = Some bytes.items
 
 -- the message that the newest piece completes after the others, if it completes one
-abbrev pub given : List PieceView → Option (List ℕ)
-given [] = None
-given (x ∷ h) = if completes h x then Some (body (x ∷ h) x.message) else None
+abbrev pub completed : List PieceView → Option (List ℕ)
+completed [] = None
+completed (x ∷ h) = if completes h x then Some (body (x ∷ h) x.message) else None

@@ -1,6 +1,22 @@
-use Rattle.std.specs.Prelude.{List, Option}
-use Rattle.window.specs.declared.reception.Reception.{Reception}
+-- What contracts see of a window.
+use Rattle.std.specs.Prelude.{ℕ, List, Option}
 
--- what is held of each address from 0, and none where it is no partner's
-abbrev pub WindowView : Type 0
-WindowView = List (Option Reception)
+-- a message that is whole: its number and its length
+pub record Whole : Type 0 where
+  pub message : ℕ
+  pub length : ℕ
+
+-- what is held of a partner
+pub record PartnerView : Type 0 where
+  -- the greatest number of a message of which a piece came
+  pub newest : Option ℕ
+  -- the places of that message, each with its bytes or none; none at all once it was handed out
+  pub held : Option (List (Option (List ℕ)))
+  -- the message that waits to be handed out
+  pub waiting : Option Whole
+
+pub record WindowView : Type 0 where
+  -- at each address from 0 what is held of the partner, or none where it is no partner's
+  pub partners : List (Option PartnerView)
+  -- how many elements each of its vectors has room for
+  pub room : List ℕ

@@ -1,6 +1,6 @@
 ghost use Rattle.std.specs.Prelude.{◌≡◌, ◌≤◌, ◌+◌, true, length, is_some, ◌*◌, ◌≢◌};
 ghost use Rattle.std.specs.List.{list_all};
-ghost use Rattle.window.specs.Places.{joined, nothing_held, has_room_for, with_block, with_piece};
+ghost use Rattle.window.specs.inside.Places.{joined, nothing_held, has_room_for, with_block, with_piece};
 
 use frame::{MESSAGE_LIMIT, PIECE_SIZE, Piece, pieces_carry_their_message};
 use std::alloc::{AllocError, Global};
@@ -9,7 +9,8 @@ use std::marker::Model;
 /// The most pieces of a message.
 const PLACES: usize = 64;
 
-/// The places of one message, and the bytes of the pieces that were put there. It has room for the longest message.
+/// The places of one message, and the bytes of the pieces that were put there. It has room for the
+/// longest message.
 #[derive(Drop)]
 pub struct Places {
     last: u8,
@@ -21,13 +22,13 @@ pub struct Places {
 }
 
 impl Model for Places {
-    ghost use Rattle.std.specs.Prelude.{Option, List, ℕ};
+    ghost use Rattle.window.specs.inside.Places.{PlacesView};
 
-    ghost Value = { List (Option (List ℕ)) };
+    ghost Value = { PlacesView };
 
-    ghost use Rattle.window.specs.PlacesInside.{places_of, IsKept};
+    ghost use Rattle.window.specs.inside.Blocks.{seen, IsKept};
 
-    ghost view = { places_of };
+    ghost view = { seen };
 
     ghost invariant = { IsKept };
 }
@@ -69,7 +70,8 @@ impl Places {
     /// Empties the places, which are now 0 to `last`.
     pub fn begin(&mut self, last: u8)
         requires { last ≤ 63 }
-        ensures { self.new ≡ nothing_held last }
+        ensures held { self.new.held ≡ nothing_held last }
+        ensures room { self.new.room ≡ self.old.room }
     {
         self.last = last;
         self.tail = 88;
@@ -79,15 +81,16 @@ impl Places {
 
     /// Whether a piece has the same last place as this message, and its place is empty.
     pub fn has_room_for(&self, piece: &Piece) -> bool
-        ensures { result ≡ has_room_for self.now piece.now }
+        ensures { result ≡ has_room_for self.now.held piece.now }
     {
         piece.last() == self.last && !self.held[usize::from(piece.piece())]
     }
 
     /// Puts a piece into its place.
     pub fn put(&mut self, piece: &Piece)
-        requires { has_room_for self.old piece.now ≡ true }
-        ensures { self.new ≡ with_piece self.old piece.now }
+        requires { has_room_for self.old.held piece.now ≡ true }
+        ensures held { self.new.held ≡ with_piece self.old.held piece.now }
+        ensures room { self.new.room ≡ self.old.room }
     {
         let place = usize::from(piece.piece());
         write_block(&mut self.bytes, place, piece.payload());
@@ -98,15 +101,15 @@ impl Places {
 
     /// Whether no place is empty.
     pub fn is_whole(&self) -> bool
-        ensures { result ≡ list_all is_some self.now }
+        ensures { result ≡ list_all is_some self.now.held }
     {
         self.missing == 0
     }
 
     /// How many bytes the places have together.
     pub fn len(&self) -> u16
-        requires { list_all is_some self.now ≡ true }
-        ensures length { result ≡ length (joined self.now) }
+        requires { list_all is_some self.now.held ≡ true }
+        ensures length { result ≡ length (joined self.now.held) }
         ensures small { result ≤ 5632 }
     {
         pieces_carry_their_message();
@@ -115,9 +118,9 @@ impl Places {
 
     /// Writes the bytes of all places.
     pub fn copy_out(&self, out: &mut [u8])
-        requires whole { list_all is_some self.now ≡ true }
-        requires length { length out.old ≡ length (joined self.now) }
-        ensures { out.new ≡ joined self.now }
+        requires whole { list_all is_some self.now.held ≡ true }
+        requires length { length out.old ≡ length (joined self.now.held) }
+        ensures { out.new ≡ joined self.now.held }
     {
         pieces_carry_their_message();
         out.copy_from_slice(&self.bytes[..usize::from(self.len())]);

@@ -1,8 +1,9 @@
 ghost use Rattle.std.specs.Prelude.{◌≡◌, true, None, List, ◌∷◌, length, IfOk, IfSome, IsSomeAnd};
 ghost use Rattle.frame.specs.Pieces.{PieceView};
-ghost use Rattle.window.specs.Places.{nothing_held, has_room_for, with_piece};
-ghost use Rattle.window.specs.Standing.{Holds, is_new, is_open, stage_after, answer_of, taken, waiting_of, waiting_after, IsShort};
 ghost use Rattle.window.specs.ListRule.{body};
+ghost use Rattle.window.specs.Windows.{taken, waiting_after, IsShort};
+ghost use Rattle.window.specs.inside.Places.{nothing_held, has_room_for, with_piece};
+ghost use Rattle.window.specs.inside.Standing.{Holds, is_newer, is_open, answer_of, waiting_at};
 ghost use Rattle.window.specs.declared.reception.Stage.TheVariants.{Unheard, Open};
 
 use crate::places::Places;
@@ -22,10 +23,8 @@ pub enum Taken {
 pub enum Stage {
     /// No piece has come.
     Unheard,
-    /// Pieces are missing.
+    /// Its pieces are held. Where none is missing, it waits to be handed out.
     Open(u32),
-    /// It is whole, and has yet to be handed out.
-    Waiting(u32),
     /// It was handed out.
     Given(u32),
 }
@@ -49,18 +48,17 @@ impl Reception {
     }
 
     /// Whether a message is newer than all that have begun.
-    fn is_new(&self, message: u32) -> bool
-        ensures { result ≡ is_new self.now.stage message }
+    fn is_newer(&self, message: u32) -> bool
+        ensures { result ≡ is_newer self.now.stage message }
     {
         match self.stage {
             Stage::Unheard => true,
             Stage::Open(newest) => newest < message,
-            Stage::Waiting(newest) => newest < message,
             Stage::Given(newest) => newest < message,
         }
     }
 
-    /// Whether a message has begun, and pieces are missing.
+    /// Whether a message has begun, and was not handed out.
     fn is_open(&self, message: u32) -> bool
         ensures { result ≡ is_open self.now.stage message }
     {
@@ -73,7 +71,8 @@ impl Reception {
     /// Begins a piece's message in place of the one before.
     fn begin(&mut self, piece: &Piece)
         ensures stage { self.new.stage ≡ Open piece.now.message }
-        ensures places { self.new.places ≡ nothing_held piece.now.last }
+        ensures places { self.new.places.held ≡ nothing_held piece.now.last }
+        ensures room { self.new.places.room ≡ self.old.places.room }
     {
         self.places.begin(piece.last());
         self.stage = Stage::Open(piece.message());
@@ -81,31 +80,36 @@ impl Reception {
 
     /// Puts a piece of the open message into its place.
     fn put(&mut self, piece: &Piece) -> Taken
-        requires open { self.old.stage ≡ Open piece.now.message }
-        requires room { has_room_for self.old.places piece.now ≡ true }
-        ensures places { self.new.places ≡ with_piece self.old.places piece.now }
-        ensures stage { self.new.stage ≡ stage_after self.new.places piece.now.message }
-        ensures answer { result ≡ answer_of self.new.places }
-        ensures small { IsShort result }
+        requires { has_room_for self.old.places.held piece.now ≡ true }
+        ensures places { self.new.places.held ≡ with_piece self.old.places.held piece.now }
+        ensures stage { self.new.stage ≡ self.old.stage }
+        ensures answer { result ≡ answer_of self.new.places.held }
+        ensures short { IsShort result }
+        ensures room { self.new.places.room ≡ self.old.places.room }
     {
         self.places.put(piece);
-        if !self.places.is_whole() {
-            return Taken::Nothing;
+        if self.places.is_whole() {
+            Taken::Complete(self.places.len())
+        } else {
+            Taken::Nothing
         }
-        self.stage = Stage::Waiting(piece.message());
-        Taken::Complete(self.places.len())
     }
 
     pub fn take(&mut self, piece: &Piece) -> Taken
-        requires { waiting_of self.old ≡ None }
-        ensures stands { (h : List PieceView) → Holds self.old h → Holds self.new (piece.now ∷ h) × (result ≡ taken h piece.now) }
-        ensures waiting { waiting_of self.new ≡ waiting_after piece.now result }
-        ensures small { IsShort result }
+        requires { waiting_at self.old.stage self.old.places.held ≡ None }
+        ensures stands { (h : List PieceView) → Holds self.old.stage self.old.places.held h →
+            Holds self.new.stage self.new.places.held (piece.now ∷ h) }
+        ensures answer { (h : List PieceView) → Holds self.old.stage self.old.places.held h →
+            result ≡ taken h piece.now }
+        ensures waiting { waiting_at self.new.stage self.new.places.held
+            ≡ waiting_after piece.now result }
+        ensures short { IsShort result }
+        ensures room { self.new.places.room ≡ self.old.places.room }
     {
         if self.is_open(piece.message()) && self.places.has_room_for(piece) {
             return self.put(piece);
         }
-        if self.is_new(piece.message()) {
+        if self.is_newer(piece.message()) {
             self.begin(piece);
             return self.put(piece);
         }
@@ -113,12 +117,17 @@ impl Reception {
     }
 
     pub fn hand_out(&mut self, out: &mut [u8])
-        requires { IsSomeAnd (waiting_of self.old) (λ waiting. length out.old ≡ waiting.length) }
-        ensures body { (h : List PieceView) → Holds self.old h → IfSome (waiting_of self.old) (λ waiting. out.new ≡ body h waiting.message) }
-        ensures stands { (h : List PieceView) → Holds self.old h → Holds self.new h }
-        ensures waiting { waiting_of self.new ≡ None }
+        requires { IsSomeAnd (waiting_at self.old.stage self.old.places.held)
+            (λ whole. length out.old ≡ whole.length) }
+        ensures body { (h : List PieceView) → Holds self.old.stage self.old.places.held h →
+            IfSome (waiting_at self.old.stage self.old.places.held)
+            (λ whole. out.new ≡ body h whole.message) }
+        ensures stands { (h : List PieceView) → Holds self.old.stage self.old.places.held h →
+            Holds self.new.stage self.new.places.held h }
+        ensures waiting { waiting_at self.new.stage self.new.places.held ≡ None }
+        ensures room { self.new.places.room ≡ self.old.places.room }
     {
-        if let Stage::Waiting(message) = self.stage {
+        if let Stage::Open(message) = self.stage {
             self.places.copy_out(out);
             self.stage = Stage::Given(message);
         }

@@ -1,8 +1,8 @@
 //! The list rule as a plain program that looks through the whole list, for each place of a message.
 ghost use Rattle.std.specs.Prelude.{◌≡◌, ◌≤◌, [], ◌++◌, IfOk, OnOk, IfSome, unwrap_or};
 ghost use Rattle.std.specs.List.{list_all, flat_map};
-ghost use Rattle.window.specs.ListRule.{places_to, last_of, is_held, is_whole, has_later, bytes_at, body};
-ghost use Rattle.window.specs.Scanning.{bytes_in, items_in, given};
+ghost use Rattle.window.specs.ListRule.{places_to, last_of, is_held, is_whole, has_newer, bytes_at, body};
+ghost use Rattle.window.specs.Scanning.{bytes_in, items_in, completed};
 
 use frame::Piece;
 use std::alloc::{AllocError, Global};
@@ -77,8 +77,8 @@ fn is_whole(heard: &[Piece], message: u32) -> bool
     }
 }
 
-fn has_later(heard: &[Piece], message: u32) -> bool
-    ensures { result ≡ has_later heard.now message }
+fn has_newer(heard: &[Piece], message: u32) -> bool
+    ensures { result ≡ has_newer heard.now message }
 {
     heard.iter().any(|x| message < x.message())
 }
@@ -96,7 +96,8 @@ fn append(bytes: &mut Vec<u8>, piece: Option<Piece>) -> Result<(), AllocError>
 /// The bytes at the places to the last one, joined.
 fn joined(alloc: Global, heard: &[Piece], message: u32, last: u8) -> Result<Vec<u8>, AllocError>
     requires { last ≤ 63 }
-    ensures { IfOk result (λ bytes. bytes.items ≡ flat_map (λ i. unwrap_or (bytes_at heard.now message last i) []) (places_to last)) }
+    ensures { IfOk result (λ bytes. bytes.items
+        ≡ flat_map (λ i. unwrap_or (bytes_at heard.now message last i) []) (places_to last)) }
 {
     let mut bytes = Vec::new(alloc);
     for place in 0..last + 1 {
@@ -115,15 +116,16 @@ fn body(alloc: Global, heard: &[Piece], message: u32) -> Result<Vec<u8>, AllocEr
     }
 }
 
-/// The message that the newest piece of a list of one sender's pieces completes. The newest comes first.
-pub fn given(alloc: Global, heard: &[Piece]) -> Result<Option<Vec<u8>>, AllocError>
-    ensures { IfOk result (λ message. items_in message ≡ given heard.now) }
+/// The message that the newest piece of a list of one sender's pieces completes. The newest comes
+/// first.
+pub fn completed(alloc: Global, heard: &[Piece]) -> Result<Option<Vec<u8>>, AllocError>
+    ensures { IfOk result (λ message. items_in message ≡ completed heard.now) }
 {
     match heard {
         [] => Ok(None),
         [newest, older @ ..] => {
             let message = newest.message();
-            if is_whole(heard, message) && !is_whole(older, message) && !has_later(older, message) {
+            if is_whole(heard, message) && !is_whole(older, message) && !has_newer(older, message) {
                 let bytes = body(alloc, heard, message)?;
                 return Ok(Some(bytes));
             }

@@ -1,5 +1,5 @@
 ghost use Rattle.std.specs.Prelude.{◌≡◌, ◌≤◌, true, None, IfSome};
-ghost use Rattle.window.specs.Windows.{is_partner, waiting};
+ghost use Rattle.window.specs.Windows.{is_sender, waiting};
 
 use crate::reception::Taken;
 use crate::scan;
@@ -36,10 +36,10 @@ fn piece(message: u32, body: &[u8], i: u8) -> Option<Piece>
 
 /// Takes a piece from host 1, and hands out the message that it completes.
 fn hear(window: &mut Window, piece: &Piece, out: &mut [u8; 5632]) -> Option<u16>
-    requires partner { is_partner window.old 1 ≡ true }
+    requires partner { is_sender window.old 1 ≡ true }
     requires idle { waiting window.old 1 ≡ None }
     requires sender { piece.now.from ≡ 1 }
-    ensures partner { is_partner window.new 1 ≡ true }
+    ensures partner { is_sender window.new 1 ≡ true }
     ensures idle { waiting window.new 1 ≡ None }
     ensures short { IfSome result (λ length. length ≤ 5632) }
 {
@@ -52,7 +52,8 @@ fn hear(window: &mut Window, piece: &Piece, out: &mut [u8; 5632]) -> Option<u16>
     }
 }
 
-/// A piece that is heard, by its message, the message's bytes and its place; and whether it gives the message.
+/// A piece that is heard, by its message, the message's bytes and its place; and whether it gives
+/// the message.
 type Step<'a> = (u32, &'a [u8], u8, bool);
 
 /// How many of the steps do as they say, one after another.
@@ -177,7 +178,7 @@ fn the_window_does_what_the_scan_does(rt: HostRuntime) -> Result<(), Fail> {
         let message = step / 12 + (seed >> 8) % 3;
         if let Some(x) = piece(message, some_body(seed >> 12), ((seed >> 20) % 3) as u8) {
             heard.insert(0, x)?;
-            let want = scan::given(rt.alloc(), &heard)?;
+            let want = scan::completed(rt.alloc(), &heard)?;
             let given = hear(&mut window, &x, &mut out);
             match (given, want) {
                 (Some(length), Some(want)) => {

@@ -1,8 +1,8 @@
 ghost use Rattle.std.specs.Prelude.{◌≡◌, ℕ, ◌≤◌, ◌<◌, true, None, List, [], ◌∷◌, length, IfOk, IfSome, IsSomeAnd};
 ghost use Rattle.frame.specs.Pieces.{PieceView};
 ghost use Rattle.window.specs.ListRule.{body};
-ghost use Rattle.window.specs.Standing.{taken, waiting_after, IsShort};
-ghost use Rattle.window.specs.Windows.{is_among, AreDifferent, Opened, is_partner, waiting, StandsFor, SameElsewhere};
+ghost use Rattle.window.specs.Windows.{is_among, AreDifferent, is_sender, waiting, StandsFor, SameElsewhere, taken, waiting_after, IsShort};
+ghost use Rattle.window.specs.inside.Receptions.{Opened};
 
 use crate::reception::{Reception, Taken};
 use frame::Piece;
@@ -21,7 +21,9 @@ impl Model for Window {
 
     ghost Value = { WindowView };
 
-    ghost view = { λ a. a.receptions.items };
+    ghost use Rattle.window.specs.inside.Receptions.{view_of};
+
+    ghost view = { view_of };
 
     ghost invariant = { λ a. length a.receptions.items ≡ 256 };
 }
@@ -38,12 +40,15 @@ fn open_at(alloc: Global, is_partner: bool) -> Result<Option<Reception>, AllocEr
 }
 
 impl Window {
-    /// A window in which nothing has come from any partner. It takes all the memory that its calls will need.
+    /// A window in which nothing has come from any partner. It takes all the memory that its calls
+    /// will need.
     pub fn open(alloc: Global, partners: &[u8]) -> Result<Window, AllocError>
         requires few { length partners.now ≤ 64 }
         requires different { AreDifferent partners.now }
-        ensures partners { IfOk result (λ window. (a : ℕ) → a < 256 → is_partner window a ≡ is_among partners.now a) }
-        ensures stands { IfOk result (λ window. (a : ℕ) → is_partner window a ≡ true → StandsFor window a []) }
+        ensures partners { IfOk result
+            (λ window. (a : ℕ) → a < 256 → is_sender window a ≡ is_among partners.now a) }
+        ensures stands { IfOk result
+            (λ window. (a : ℕ) → is_sender window a ≡ true → StandsFor window a []) }
         ensures waiting { IfOk result (λ window. (a : ℕ) → waiting window a ≡ None) }
     {
         let mut receptions = Vec::with_capacity(alloc, 256)?;
@@ -56,14 +61,18 @@ impl Window {
 
     /// Takes a piece from its sender.
     pub fn take(&mut self, from: u8, piece: &Piece) -> Taken
-        requires partner { is_partner self.old from ≡ true }
+        requires partner { is_sender self.old from ≡ true }
         requires sender { piece.now.from ≡ from }
         requires free { waiting self.old from ≡ None }
-        ensures stands { (h : List PieceView) → StandsFor self.old from h → StandsFor self.new from (piece.now ∷ h) × (result ≡ taken h piece.now) }
+        ensures stands { (h : List PieceView) → StandsFor self.old from h →
+            StandsFor self.new from (piece.now ∷ h) }
+        ensures answer { (h : List PieceView) → StandsFor self.old from h →
+            result ≡ taken h piece.now }
         ensures waiting { waiting self.new from ≡ waiting_after piece.now result }
-        ensures partner { is_partner self.new from ≡ true }
+        ensures partner { is_sender self.new from ≡ true }
         ensures others { SameElsewhere self.old self.new from }
         ensures short { IsShort result }
+        ensures room { self.new.room ≡ self.old.room }
     {
         match &mut self.receptions[usize::from(from)] {
             Some(reception) => reception.take(piece),
@@ -74,11 +83,14 @@ impl Window {
     /// Writes the message of a partner that waits, and gives its room back.
     pub fn hand_out(&mut self, from: u8, out: &mut [u8])
         requires { IsSomeAnd (waiting self.old from) (λ whole. length out.old ≡ whole.length) }
-        ensures body { (h : List PieceView) → StandsFor self.old from h → IfSome (waiting self.old from) (λ whole. out.new ≡ body h whole.message) }
-        ensures stands { (h : List PieceView) → StandsFor self.old from h → StandsFor self.new from h }
+        ensures body { (h : List PieceView) → StandsFor self.old from h →
+            IfSome (waiting self.old from) (λ whole. out.new ≡ body h whole.message) }
+        ensures stands { (h : List PieceView) → StandsFor self.old from h →
+            StandsFor self.new from h }
         ensures waiting { waiting self.new from ≡ None }
-        ensures partner { is_partner self.new from ≡ true }
+        ensures partner { is_sender self.new from ≡ true }
         ensures others { SameElsewhere self.old self.new from }
+        ensures room { self.new.room ≡ self.old.room }
     {
         match &mut self.receptions[usize::from(from)] {
             Some(reception) => reception.hand_out(out),

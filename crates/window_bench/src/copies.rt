@@ -1,6 +1,7 @@
 use frame::{PIECE_SIZE, Piece};
 
-/// Copies a piece to its place in its sender's row, and the row out if the piece is its message's last.
+/// Copies a piece to its place in its sender's row, and the row out if the piece is its message's
+/// last.
 fn copy_piece(rows: &mut [[u8; 5632]], piece: &Piece, out: &mut [u8; 5632]) {
     let Some(row) = rows.get_mut(usize::from(piece.from())) else {
         return;

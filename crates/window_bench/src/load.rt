@@ -1,7 +1,8 @@
 use frame::{MESSAGE_LIMIT, Piece, cut, pieces};
 use std::alloc::{AllocError, Global};
 
-/// Messages of so many partners, how many each of them sends, and how often all of them are taken in a round.
+/// Messages of so many partners, how many each of them sends, and how often all of them are taken
+/// in a round.
 #[derive(Clone, Copy)]
 pub struct Load {
     pub partners: u8,
@@ -57,7 +58,8 @@ impl Traffic {
         Ok(traffic)
     }
 
-    /// Adds one message of each partner, whose pieces come in turn. All bytes are the last of its number.
+    /// Adds one message of each partner, whose pieces come in turn. All bytes are the last of its
+    /// number.
     fn add(&mut self, partners: u8, message: u32) -> Result<(), AllocError> {
         let body = [(message % 256) as u8; 5632];
         for _ in 0..partners {

@@ -1,8 +1,13 @@
-//! Times windows. Takes the pieces of messages of 5,632 bytes and hands the messages out; copies the pieces to their
-//! places and the whole messages out, with no window; and copies each message once.
+//! Times windows. Takes the pieces of messages of 5,632 bytes and hands the messages out; copies
+//! the pieces to their places and the whole messages out, with no window; and copies each message
+//! once.
 //!
-//! `window_bench ROUNDS` does this with few messages of one partner, with many of one, and with as many of 64 whose
-//! pieces come in turn. It prints sums of the last bytes that came out, and the times on standard error.
+//! `window_bench ROUNDS` does this with few messages of one partner, with many of one, and with as
+//! many of 64 whose pieces come in turn. It prints sums of the last bytes that came out, and the
+//! times on standard error.
+//!
+//! `window_bench through COUNT` sends so many messages through one window, and prints the sum of
+//! their last bytes.
 #![tactic(auto)]
 
 ghost use Rattle.std.specs.Prelude.{◌≤◌};
@@ -16,7 +21,7 @@ use load::{Load, Traffic};
 use std::env;
 use std::io::Result;
 use std::time::Instant;
-use windows::{hear_all, open};
+use windows::{hear_all, open, send_through};
 
 /// A round takes 1,024 messages of each load.
 const LOADS: [Load; 3] = [
@@ -103,29 +108,44 @@ fn measure(rt: &HostRuntime, load: Load, rounds: u32) -> Result<Totals>
     Ok(totals)
 }
 
-/// The first argument, or 10.
-fn rounds(rt: &HostRuntime) -> Result<u32> {
-    let word = env::args(rt)?.nth(1);
-    Ok(word.and_then(|x| x.as_str().parse().ok()).unwrap_or(10))
+/// The number that a word spells, or 10.
+fn number(word: Option<String>) -> u32 {
+    word.and_then(|x| x.as_str().parse().ok()).unwrap_or(10)
 }
 
-fn main(rt: HostRuntime) -> Result<()> {
-    let rounds = rounds(&rt)?;
+/// Sends messages through one window.
+fn send_messages(rt: &HostRuntime, count: u32) -> Result<()> {
+    let mut window = open(rt.alloc(), 1)?;
+    let mut out = [0u8; 5632];
+    let sum = send_through(&mut window, count, &mut out);
+    println!(rt; "{sum}")
+}
+
+fn measure_all(rt: &HostRuntime, rounds: u32) -> Result<()> {
     for load in LOADS {
         let Totals {
             windows,
             pieces,
             bodies,
-        } = measure(&rt, load, rounds)?;
+        } = measure(rt, load, rounds)?;
         println!(rt; "{} {} {}", windows.sum, pieces.sum, bodies.sum)?;
+        eprint!(rt;
+            "partners: {}, messages of each: {}, ",
+            load.partners, load.messages
+        )?;
         eprintln!(rt;
-            "partners: {}, messages of each: {}, take and hand out: {} ns, pieces and messages: {} ns, messages: {} ns",
-            load.partners,
-            load.messages,
-            windows.nanoseconds,
-            pieces.nanoseconds,
-            bodies.nanoseconds
+            "take and hand out: {} ns, pieces and messages: {} ns, messages: {} ns",
+            windows.nanoseconds, pieces.nanoseconds, bodies.nanoseconds
         )?;
     }
     Ok(())
+}
+
+fn main(rt: HostRuntime) -> Result<()> {
+    let mut words = env::args(&rt)?;
+    let word = words.nth(1);
+    if word.as_ref().is_some_and(|x| x.as_str() == "through") {
+        return send_messages(&rt, number(words.next()));
+    }
+    measure_all(&rt, number(word))
 }

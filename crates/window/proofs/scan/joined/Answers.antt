@@ -11,5 +11,6 @@ loop-place-preserved c =
     let f = λ (i : ℕ). unwrap_or (bytes_at c.args.heard.now c.args.message c.args.last i) [] in
     c.in_ok-append.ensures
     ∙ ap (λ xs. xs ++ unwrap_or (bytes_in c.first_at.result) []) c.loop-place.invariant
-    ∙ ap (λ (o : Option (List ℕ)). flat_map f (range_with_len 0 c.loop-place.place) ++ unwrap_or o []) c.first_at.ensures
+    ∙ ap (λ (o : Option (List ℕ)). flat_map f
+    (range_with_len 0 c.loop-place.place) ++ unwrap_or o []) c.first_at.ensures
     ∙ sym (flat_more f 0 c.loop-place.place c.loop-place.place (omega arith))

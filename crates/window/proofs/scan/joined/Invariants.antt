@@ -5,4 +5,5 @@ use Rattle.window.specs.ListRule.{bytes_at}
 use Rattle.window.proofs.scan.joined.Given as goal
 
 abbrev pub invariant-loop-place : goal.invariant-loop-place
-invariant-loop-place l = l.bytes.items ≡ flat_map (λ i. unwrap_or (bytes_at l.heard l.message l.last i) []) (range_with_len 0 l.place)
+invariant-loop-place l =
+    l.bytes.items ≡ flat_map (λ i. unwrap_or (bytes_at l.heard l.message l.last i) []) (range_with_len 0 l.place)

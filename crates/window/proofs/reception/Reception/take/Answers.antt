@@ -1,47 +1,58 @@
-use Rattle.std.proofs.Common.{◌≡◌, ℕ, ◌∷◌, ◌&&◌, Bool, true, false, sym, ◌∙◌, ap, arith, refl}
-use Rattle.std.proofs.lemmas.Bool.Decides.{nat_tests}
-use Rattle.window.specs.Places.{has_room_for, nothing_held, with_piece}
-use Rattle.window.specs.Standing.{is_open, is_new, stage_after, answer_of}
-use Rattle.window.specs.declared.reception.Stage.{Stage}
-use Rattle.window.specs.declared.reception.Stage.TheVariants.{Unheard, Open, Waiting, Given}
-use Rattle.window.proofs.Rule.{first_taken, next_taken, ignored, holds_along}
+use Rattle.std.proofs.Common.{◌≡◌, List, ◌∷◌, ◌&&◌, Bool, true, false, sym, ◌∙◌, ap, refl}
+use Rattle.frame.specs.Pieces.{PieceView}
+use Rattle.window.specs.Windows.{taken}
+use Rattle.window.specs.declared.reception.Taken.TheVariants.{Nothing}
+use Rattle.window.specs.inside.Places.{has_room_for, with_piece}
+use Rattle.window.specs.inside.Standing.{Holds, is_open, is_newer}
+use Rattle.window.proofs.Rule.{joins, begins, ignored}
 use Rattle.window.proofs.reception.Reception.take.Goals as goal
 use Rattle.window.proofs.reception.Reception.take.Goals.{else-is_open-via-then-is_open+else-has_room_for, else-is_open-via-else-is_open}
-
-open_is : (stage : Stage) (j : ℕ) → is_open stage j ≡ true → stage ≡ Open j
-open_is Unheard j h = cc
-open_is (Open k) j h = ap Open (grind (arith, nat_tests))
-open_is (Waiting k) j h = cc
-open_is (Given k) j h = cc
 
 pub returns-then-has_room_for-clause-stands : goal.returns-then-has_room_for-clause-stands
 returns-then-has_room_for-clause-stands c = λ h holds.
     let now = c.args.self.now in
     let x = c.args.piece.now in
     let after = c.put.new.self in
-    let put = c.put.ensures in
-    let open_now : is_open now.stage x.message ≡ true = ap (is_open now.stage) (sym c.message.ensures.message) ∙ sym c.is_open.ensures ∙ c.if-is_open.true in
-    let stage_is = open_is now.stage x.message open_now in
-    let room : has_room_for now.places x ≡ true = sym c.has_room_for.ensures ∙ c.if-has_room_for.true in
-    let t = next_taken x.message now.places h x c.message.ensures.kept.within (holds_along (Open x.message) now.stage now.places now.places h (sym stage_is) refl holds) refl room in
-    let stage = put.stage ∙ ap (λ places. stage_after places x.message) put.places in (
-      holds_along after.stage (stage_after (with_piece now.places x) x.message) after.places (with_piece now.places x) (x ∷ h) stage put.places t.0,
-      put.answer ∙ ap answer_of put.places ∙ t.1,
-    )
+    let here : is_open now.stage x.message ≡ true =
+    ap (is_open now.stage) (sym c.message.ensures.message) ∙ sym c.is_open.ensures ∙ c.if-is_open.true in
+    (joins now.stage after.stage now.places.held after.places.held h x
+    c.message.ensures.kept.within holds c.requires here
+    (sym c.has_room_for.ensures ∙ c.if-has_room_for.true) c.put.ensures.stage c.put.ensures.places).0
 
-pub returns-then-is_new-clause-stands : goal.returns-then-is_new-clause-stands
-returns-then-is_new-clause-stands c = λ h holds.
+pub returns-then-has_room_for-clause-answer : goal.returns-then-has_room_for-clause-answer
+returns-then-has_room_for-clause-answer c = λ h holds.
     let now = c.args.self.now in
     let x = c.args.piece.now in
-    let after = c.put-then-is_new.new.self in
-    let put = c.put-then-is_new.ensures in
-    let new : is_new now.stage x.message ≡ true = ap (is_new now.stage) (sym c.message-2.ensures.message) ∙ sym c.is_new.ensures ∙ c.if-is_new.true in
-    let t = first_taken now.stage now.places h x c.message.ensures.kept.within holds new in
-    let places : after.places ≡ with_piece (nothing_held x.last) x = put.places ∙ ap (λ places. with_piece places x) c.begin.ensures.places in
-    let stage = put.stage ∙ ap (λ places. stage_after places x.message) places in (
-      holds_along after.stage (stage_after (with_piece (nothing_held x.last) x) x.message) after.places (with_piece (nothing_held x.last) x) (x ∷ h) stage places t.0,
-      put.answer ∙ ap answer_of places ∙ t.1,
-    )
+    let after = c.put.new.self in
+    let here : is_open now.stage x.message ≡ true =
+    ap (is_open now.stage) (sym c.message.ensures.message) ∙ sym c.is_open.ensures ∙ c.if-is_open.true in
+    c.put.ensures.answer
+    ∙ (joins now.stage after.stage now.places.held after.places.held h x
+    c.message.ensures.kept.within holds c.requires here
+    (sym c.has_room_for.ensures ∙ c.if-has_room_for.true) c.put.ensures.stage c.put.ensures.places).1
+
+pub returns-then-is_newer-clause-stands : goal.returns-then-is_newer-clause-stands
+returns-then-is_newer-clause-stands c = λ h holds.
+    let now = c.args.self.now in
+    let x = c.args.piece.now in
+    let after = c.put-then-is_newer.new.self in
+    let put = c.put-then-is_newer.ensures in
+    let newer : is_newer now.stage x.message ≡ true =
+    ap (is_newer now.stage) (sym c.message-2.ensures.message) ∙ sym c.is_newer.ensures ∙ c.if-is_newer.true in
+    (begins now.stage after.stage now.places.held after.places.held h x c.message.ensures.kept.within holds newer
+    (put.stage ∙ c.begin.ensures.stage) (put.places ∙ ap (λ places. with_piece places x) c.begin.ensures.places)).0
+
+pub returns-then-is_newer-clause-answer : goal.returns-then-is_newer-clause-answer
+returns-then-is_newer-clause-answer c = λ h holds.
+    let now = c.args.self.now in
+    let x = c.args.piece.now in
+    let after = c.put-then-is_newer.new.self in
+    let put = c.put-then-is_newer.ensures in
+    let newer : is_newer now.stage x.message ≡ true =
+    ap (is_newer now.stage) (sym c.message-2.ensures.message) ∙ sym c.is_newer.ensures ∙ c.if-is_newer.true in
+    put.answer
+    ∙ (begins now.stage after.stage now.places.held after.places.held h x c.message.ensures.kept.within holds newer
+    (put.stage ∙ c.begin.ensures.stage) (put.places ∙ ap (λ places. with_piece places x) c.begin.ensures.places)).1
 
 neither : (a b : Bool) → a ≡ false → (a && b) ≡ false
 neither a b h = rw h
@@ -50,14 +61,28 @@ not_and : (a b : Bool) → b ≡ false → (a && b) ≡ false
 not_and true b h = h
 not_and false b h = refl
 
-pub returns-clause-stands : goal.returns-clause-stands
-returns-clause-stands c = λ h holds.
+-- a piece that is neither of a newer message nor has room changes nothing
+unchanged : (c : goal.Else-is_newer) (h : List PieceView) → Holds c.args.self.now.stage c.args.self.now.places.held h
+    → Holds c.args.self.now.stage c.args.self.now.places.held (c.args.piece.now ∷ h)
+    × (Nothing ≡ taken h c.args.piece.now)
+unchanged c h holds =
     let now = c.args.self.now in
     let x = c.args.piece.now in
-    let old : is_new now.stage x.message ≡ false = ap (is_new now.stage) (sym c.message-2.ensures.message) ∙ sym c.is_new.ensures ∙ c.if-is_new.false in
-    let no_room : (is_open now.stage x.message && has_room_for now.places x) ≡ false =
+    let old : is_newer now.stage x.message ≡ false =
+    ap (is_newer now.stage) (sym c.message-2.ensures.message) ∙ sym c.is_newer.ensures ∙ c.if-is_newer.false in
+    let no_room : (is_open now.stage x.message && has_room_for now.places.held x) ≡ false =
     elim c.else-is_open.branch [
-      | else-is_open-via-then-is_open+else-has_room_for w ↦ not_and (is_open now.stage x.message) (has_room_for now.places x) (sym w.has_room_for.ensures ∙ w.if-has_room_for.false)
-      | else-is_open-via-else-is_open w ↦ neither (is_open now.stage x.message) (has_room_for now.places x) (ap (is_open now.stage) (sym c.message.ensures.message) ∙ sym c.is_open.ensures ∙ w.if-is_open.false)
+      | else-is_open-via-then-is_open+else-has_room_for w ↦
+          not_and (is_open now.stage x.message) (has_room_for now.places.held x)
+          (sym w.has_room_for.ensures ∙ w.if-has_room_for.false)
+      | else-is_open-via-else-is_open w ↦
+          neither (is_open now.stage x.message) (has_room_for now.places.held x)
+          (ap (is_open now.stage) (sym c.message.ensures.message) ∙ sym c.is_open.ensures ∙ w.if-is_open.false)
     ] in
-    ignored now.stage now.places h x c.message.ensures.kept.within holds c.requires old no_room
+    ignored now.stage now.places.held h x c.message.ensures.kept.within holds c.requires old no_room
+
+pub returns-clause-stands : goal.returns-clause-stands
+returns-clause-stands c = λ h holds. (unchanged c h holds).0
+
+pub returns-clause-answer : goal.returns-clause-answer
+returns-clause-answer c = λ h holds. (unchanged c h holds).1

@@ -1,6 +1,7 @@
 use Rattle.std.proofs.Common.{◌≡◌, ℕ, ◌<◌, None, length}
 use Rattle.std.proofs.Math.ListN.{get_or}
-use Rattle.window.specs.Windows.{is_among, Opened}
+use Rattle.window.specs.Windows.{is_among}
+use Rattle.window.specs.inside.Receptions.{Opened}
 use Rattle.window.proofs.window.Window.open.Given as goal
 
 abbrev pub invariant-loop-address : goal.invariant-loop-address

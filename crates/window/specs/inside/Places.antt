@@ -4,6 +4,11 @@ use Rattle.std.specs.List.{flat_map}
 use Rattle.std.proofs.Math.ListN.{get_or, set}
 use Rattle.frame.specs.Pieces.{PieceView, used_bytes}
 
+-- the places, and how many bytes they have room for
+pub record PlacesView : Type 0 where
+  pub held : List (Option (List ℕ))
+  pub room : ℕ
+
 -- the bytes of all places, in order
 abbrev pub joined : List (Option (List ℕ)) → List ℕ
 joined places = flat_map (λ bytes. unwrap_or bytes []) places
