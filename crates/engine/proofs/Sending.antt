@@ -24,24 +24,32 @@ pub record IsAccepted (roster : RosterView) (s u : ℕ) (m : List ℕ) : Type 0 
   pub partner : is_partner roster (Host s) (Host u) ≡ true
   pub short : length m ≤ 5632
 
-accepted_one : (b d c : Bool) (roster : RosterView) (s u i : ℕ) (message m : List ℕ) → c ≡ is_accepted roster (Host s) (Host u) message
+accepted_one : (b d c : Bool) (roster : RosterView) (s u i : ℕ) (message m : List ℕ)
+    → c ≡ is_accepted roster (Host s) (Host u) message
     → slice_get (if b && d && c then message ∷ [] else []) i ≡ Some m → IsAccepted roster s u m
 accepted_one true true true roster s u zero message m is h =
     let same : message ≡ m = same_Some message m h in
-    record { partner = grind (arith, nat_tests); short = subst (λ (bytes : List ℕ). length bytes ≤ 5632) same (grind (arith, nat_tests)) }
+    record {
+      partner = grind (arith, nat_tests);
+      short =
+          subst (λ (bytes : List ℕ). length bytes ≤ 5632) same (grind (arith, nat_tests));
+    }
 accepted_one true true true roster s u (suc i) message m is h = cc
 accepted_one true true false roster s u i message m is h = cc
 accepted_one true false c roster s u i message m is h = cc
 accepted_one false d c roster s u i message m is h = cc
 
-accepted_by : (roster : RosterView) (e : Event) (s u i : ℕ) (m : List ℕ) → slice_get (sent_by roster e (Host s) (Host u)) i ≡ Some m
+accepted_by : (roster : RosterView) (e : Event) (s u i : ℕ) (m : List ℕ)
+    → slice_get (sent_by roster e (Host s) (Host u)) i ≡ Some m
     → IsAccepted roster s u m
-accepted_by roster (Send from to message) s u i m h = accepted_one (is_same_party (Host from) (Host s)) (is_same_party to (Host u)) (is_accepted roster (Host s) (Host u) message) roster s u i message m refl h
-accepted_by roster (Arrive stream message piece at) s u i m h = cc
-accepted_by roster (Carry stream message at) s u i m h = cc
+accepted_by roster (Send from to message) s u i m h =
+    accepted_one (is_same_party (Host from) (Host s)) (is_same_party to (Host u))
+    (is_accepted roster (Host s) (Host u) message) roster s u i message m refl h
+accepted_by roster _ s u i m h = cc
 
 -- a message that was sent was accepted
-pub was_accepted : (roster : RosterView) (past : List Event) (s u j : ℕ) (m : List ℕ) → slice_get (sent_between roster past s u) j ≡ Some m
+pub was_accepted : (roster : RosterView) (past : List Event) (s u j : ℕ) (m : List ℕ)
+    → slice_get (sent_between roster past s u) j ≡ Some m
     → IsAccepted roster s u m
 was_accepted roster [] s u j m h = cc
 was_accepted roster (e ∷ past) s u j m h =
@@ -51,7 +59,8 @@ was_accepted roster (e ∷ past) s u j m h =
     ]
 
 one_partition : (p q : Option Partition) → is_one_partition p q ≡ true
-    → (is_some p ≡ true) × (is_some q ≡ true) × (number_in p ≡ number_in q) × (is_one_partition q p ≡ true)
+    → (is_some p ≡ true) × (is_some q ≡ true) × (number_in p ≡ number_in q)
+    × (is_one_partition q p ≡ true)
 one_partition None q h = cc
 one_partition (Some p) None h = cc
 one_partition (Some p) (Some q) h = (refl, refl, grind (arith, nat_tests), grind (arith, nat_tests))
@@ -63,14 +72,24 @@ pub record ArePartners (roster : RosterView) (s u : ℕ) : Type 0 where
   pub numbers : number_in (partition_of roster (Host s)) ≡ number_in (partition_of roster (Host u))
   pub back : is_partner roster (Host u) (Host s) ≡ true
 
-pub partners : (roster : RosterView) (s u : ℕ) → is_partner roster (Host s) (Host u) ≡ true → ArePartners roster s u
+pub partners : (roster : RosterView) (s u : ℕ) → is_partner roster (Host s) (Host u) ≡ true
+    → ArePartners roster s u
 partners roster s u h =
-    let one : is_one_partition (partition_of roster (Host s)) (partition_of roster (Host u)) ≡ true = grind (arith, nat_tests) in
+    let one : is_one_partition (partition_of roster (Host s)) (partition_of roster (Host u))
+    ≡ true = grind (arith, nat_tests) in
     let both = one_partition (partition_of roster (Host s)) (partition_of roster (Host u)) one in
     let there = both.3 in
-    record { known = both.0; also_known = both.1; numbers = both.2; back = grind (arith, nat_tests, there) }
+    record {
+      known = both.0;
+      also_known = both.1;
+      numbers = both.2;
+      back =
+          grind (arith, nat_tests, there);
+    }
 
 -- events of the network send nothing
-pub sends_nothing : (roster : RosterView) (e : Event) (past : List Event) (s u : ℕ) → sent_by roster e (Host s) (Host u) ≡ []
+pub sends_nothing : (roster : RosterView) (e : Event) (past : List Event) (s u : ℕ)
+    → sent_by roster e (Host s) (Host u) ≡ []
     → sent_between roster (e ∷ past) s u ≡ sent_between roster past s u
-sends_nothing roster e past s u none = ap (λ more. sent_between roster past s u ++ more) none ∙ append-nil (sent_between roster past s u)
+sends_nothing roster e past s u none = ap (λ more. sent_between roster past s u ++ more) none
+    ∙ append-nil (sent_between roster past s u)

@@ -29,7 +29,8 @@ number_in (Some partition) = partition.0
 abbrev pub piece_at : PieceName → ℕ → Option (List ℕ) → Option PieceView
 piece_at name partition None = None
 piece_at name partition (Some message) =
-    if nat_lt name.piece (pieces message) then Some (piece_of name.from name.to partition name.message message name.piece) else None
+    if nat_lt name.piece (pieces message)
+    then Some (piece_of name.from name.to partition name.message message name.piece) else None
 
 abbrev pub between : ℕ → ℕ → Stream
 between s u = record { from = Host s; to = Host u }
@@ -45,36 +46,47 @@ arrived_between roster past s u = arrivals (sent roster (Host s) (Host u)) past 
 -- the piece of this name, if the machine has sent it
 abbrev pub piece_sent : RosterView → List Event → PieceName → Option PieceView
 piece_sent roster past name =
-    piece_at name (number_in (partition_of roster (Host name.from))) (slice_get (sent_between roster past name.from name.to) name.message)
+    piece_at name (number_in (partition_of roster (Host name.from)))
+    (slice_get (sent_between roster past name.from name.to) name.message)
 
--- The desk of host a has these next numbers and lines, and each partner's pieces that it has heard are genuine and those that have arrived.
-pub record DeskIs (roster : RosterView) (past : List Event) (a : ℕ) (arrived : ℕ → List (ℕ × ℕ)) (told : List OutLine) (desk : DeskView) : Type 0 where
+-- The desk of host a has these next numbers and lines, and each partner's pieces that it has heard
+-- are genuine and those that have arrived.
+pub record DeskIs (roster : RosterView) (past : List Event) (a : ℕ) (arrived : ℕ → List (ℕ × ℕ))
+    (told : List OutLine) (desk : DeskView) : Type 0 where
   pub address : desk.host.address ≡ a
   pub partition : desk.host.partition ≡ number_in (partition_of roster (Host a))
-  pub next : (r : ℕ) → is_known roster (Host r) ≡ true → next_of desk.host r ≡ (if is_partner roster (Host a) (Host r) then Some (length (sent_between roster past a r)) else None)
+  pub next : (r : ℕ) → is_known roster (Host r) ≡ true
+      → next_of desk.host r ≡ (if is_partner roster (Host a) (Host r)
+      then Some (length (sent_between roster past a r)) else None)
   pub lines : desk.lines ≡ told
   pub heard : ℕ → List PieceView
-  pub stands : (s : ℕ) → is_partner roster (Host a) (Host s) ≡ true → StandsFor desk.host s (heard s)
+  pub stands : (s : ℕ) → is_partner roster (Host a) (Host s) ≡ true
+      → StandsFor desk.host s (heard s)
   pub genuine : (s : ℕ) → AreGenuine (sent_between roster past s a) (heard s) (arrived s)
 
 -- the desk stands where the machine is
 abbrev pub DeskStands : RosterView → List Event → ℕ → DeskView → Type 0
-DeskStands roster past a desk = DeskIs roster past a (λ s. arrived_between roster past s a) (told_by roster past (Host a)) desk
+DeskStands roster past a desk = DeskIs roster past a (λ s. arrived_between roster past s a)
+    (told_by roster past (Host a)) desk
 
-abbrev pub SlotIs : RosterView → List Event → ℕ → (ℕ → List (ℕ × ℕ)) → List OutLine → Option DeskView → Type 0
+abbrev pub SlotIs : RosterView → List Event → ℕ → (ℕ → List (ℕ × ℕ)) → List OutLine
+    → Option DeskView → Type 0
 SlotIs roster past a arrived told None = is_known roster (Host a) ≡ false
-SlotIs roster past a arrived told (Some desk) = (is_known roster (Host a) ≡ true) × DeskIs roster past a arrived told desk
+SlotIs roster past a arrived told (Some desk) = (is_known roster (Host a) ≡ true)
+    × DeskIs roster past a arrived told desk
 
 -- a host's address has a desk that stands where the machine is, and no other address has one
 abbrev pub SlotStands : RosterView → List Event → ℕ → Option DeskView → Type 0
-SlotStands roster past a slot = SlotIs roster past a (λ s. arrived_between roster past s a) (told_by roster past (Host a)) slot
+SlotStands roster past a slot = SlotIs roster past a (λ s. arrived_between roster past s a)
+    (told_by roster past (Host a)) slot
 
 -- each address has the desk of its host, if it is a host's
 abbrev pub DesksStand : RosterView → List Event → List (Option DeskView) → Type 0
 DesksStand roster past desks = (a : ℕ) → a < 256 → SlotStands roster past a (desk_at desks a)
 
 abbrev pub PiecesStand : RosterView → List Event → SentPieces → Type 0
-PiecesStand roster past pieces = (name : PieceName) → piece_named pieces name ≡ piece_sent roster past name
+PiecesStand roster past pieces = (name : PieceName)
+    → piece_named pieces name ≡ piece_sent roster past name
 
 -- a network stands where the machine is
 pub record Stands (roster : RosterView) (past : List Event) (network : Network) : Type 0 where
@@ -100,20 +112,26 @@ carried_upto j k (Some message) arrived = carried j (min k (pieces message)) arr
 abbrev pub given_upto : ℕ → ℕ → ℕ → Option (List ℕ) → List (ℕ × ℕ) → List OutLine
 given_upto s j k None arrived = []
 given_upto s j k (Some message) arrived =
-    given_line (Host s) (if is_given (Some message) arrived (carried j (min k (pieces message)) arrived) j then Some message else None)
+    given_line (Host s) (if is_given (Some message) arrived
+    (carried j (min k (pieces message)) arrived) j then Some message else None)
 
 -- what has arrived at a host from s, in the middle of a message from one host to another
 abbrev pub arrived_upto : RosterView → List Event → ℕ → ℕ → ℕ → ℕ → ℕ → ℕ → List (ℕ × ℕ)
 arrived_upto roster past from to j k at s =
-    if s == from && to == at then carried_upto j k (slice_get (sent_between roster past from at) j) (arrived_between roster past s at) else arrived_between roster past s at
+    if s == from && to == at then carried_upto j k (slice_get (sent_between roster past from at) j)
+    (arrived_between roster past s at) else arrived_between roster past s at
 
 abbrev pub told_upto : RosterView → List Event → ℕ → ℕ → ℕ → ℕ → ℕ → List OutLine
 told_upto roster past from to j k at =
     told_by roster past (Host at)
-    ++ (if to == at then given_upto from j k (slice_get (sent_between roster past from at) j) (arrived_between roster past from at) else [])
+    ++ (if to == at then given_upto from j k (slice_get (sent_between roster past from at) j)
+    (arrived_between roster past from at) else [])
 
--- the network stands where the machine is, but that the first k pieces of a message have come to an address
-pub record StandsUpto (roster : RosterView) (past : List Event) (from to j k at : ℕ) (network : Network) : Type 0 where
+-- the network stands where the machine is, but that the first k pieces of a message have come to an
+-- address
+pub record StandsUpto (roster : RosterView) (past : List Event) (from to j k at : ℕ)
+    (network : Network) : Type 0 where
   pub others : (b : ℕ) → b < 256 → b ≢ at → SlotStands roster past b (desk_at network.desks b)
-  pub here : SlotIs roster past at (arrived_upto roster past from to j k at) (told_upto roster past from to j k at) (desk_at network.desks at)
+  pub here : SlotIs roster past at (arrived_upto roster past from to j k at)
+      (told_upto roster past from to j k at) (desk_at network.desks at)
   pub pieces : PiecesStand roster past network.sent

@@ -57,9 +57,11 @@ impl Desks {
 
     /// A host sends a message to an address. Ok has the message's number, if it is sent.
     pub fn send(&mut self, from: u8, to: u8, message: &[u8]) -> Result<Option<u32>, AllocError>
-        ensures here { OnOk result (desk_at self.new from ≡ slot_after_send (desk_at self.old from) to (length message.now)) }
+        ensures here { OnOk result (desk_at self.new from
+            ≡ slot_after_send (desk_at self.old from) to (length message.now)) }
         ensures others { (b : ℕ) → b ≢ from → desk_at self.new b ≡ desk_at self.old b }
-        ensures number { IfOk result (λ number. number ≡ number_at (desk_at self.old from) to (length message.now)) }
+        ensures number { IfOk result (λ number. number
+            ≡ number_at (desk_at self.old from) to (length message.now)) }
     {
         match &mut self.slots[usize::from(from)] {
             Some(desk) => desk.send(to, message),
@@ -75,7 +77,8 @@ impl Desks {
         piece: &Piece,
         out: &mut [u8; 5632],
     ) -> Result<(), AllocError>
-        ensures here { OnOk result (SlotHears (desk_at self.old at) piece.now (desk_at self.new at)) }
+        ensures here { OnOk result (SlotHears (desk_at self.old at) piece.now
+            (desk_at self.new at)) }
         ensures others { (b : ℕ) → b ≢ at → desk_at self.new b ≡ desk_at self.old b }
     {
         match &mut self.slots[usize::from(at)] {

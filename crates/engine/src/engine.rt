@@ -122,6 +122,7 @@ fn step(
             let first = name_of(*stream, *message, 0);
             network.carry(alloc, first.from, first.to, *message, host_of(*at))
         }
+        Event::Ask { .. } | Event::Forge { .. } | Event::Tamper { .. } => Ok(()),
     }
 }
 

@@ -46,8 +46,10 @@ impl Network {
         message: &[u8],
     ) -> Result<(), AllocError>
         ensures { OnOk result ((roster : RosterView) (past : List Event) → length past < 100000 →
-            is_known roster (Host from) ≡ true → is_known roster (Host to) ≡ true → partition ≡ number_in (partition_of roster (Host from)) →
-            Stands roster past self.old → Stands roster (Send from (Host to) message.now ∷ past) self.new) }
+            is_known roster (Host from) ≡ true → is_known roster (Host to) ≡ true
+            → partition ≡ number_in (partition_of roster (Host from)) →
+            Stands roster past self.old → Stands roster (Send from (Host to) message.now ∷ past)
+            self.new) }
     {
         match self.desks.send(from, to, message)? {
             None => Ok(()),
@@ -58,7 +60,8 @@ impl Network {
     /// The network hands a piece to an address, if it was sent, and Ok says whether it was.
     fn hand(&mut self, alloc: Global, name: PieceName, at: u8) -> Result<bool, AllocError>
         ensures handed { OnOk result (HearsNamed self.old name at self.new) }
-        ensures sent { IfOk result (λ was_sent. was_sent ≡ is_some (piece_named self.old.sent name)) }
+        ensures sent { IfOk result (λ was_sent. was_sent
+            ≡ is_some (piece_named self.old.sent name)) }
     {
         match self.sent.get(name) {
             None => Ok(false),
@@ -71,8 +74,10 @@ impl Network {
 
     /// The network hands one piece to an address.
     pub fn arrive(&mut self, alloc: Global, name: PieceName, at: u8) -> Result<(), AllocError>
-        ensures { OnOk result ((roster : RosterView) (past : List Event) → Stands roster past self.old →
-            Stands roster (Arrive (between name.from name.to) name.message name.piece (Host at) ∷ past) self.new) }
+        ensures { OnOk result ((roster : RosterView) (past : List Event)
+            → Stands roster past self.old →
+            Stands roster (Arrive (between name.from name.to) name.message name.piece (Host at)
+            ∷ past) self.new) }
     {
         pieces_carry_their_message();
         self.hand(alloc, name, at)?;
@@ -88,7 +93,8 @@ impl Network {
         message: u32,
         at: u8,
     ) -> Result<(), AllocError>
-        ensures { OnOk result ((roster : RosterView) (past : List Event) → Stands roster past self.old →
+        ensures { OnOk result ((roster : RosterView) (past : List Event)
+            → Stands roster past self.old →
             Stands roster (Carry (between from to) message (Host at) ∷ past) self.new) }
     {
         pieces_carry_their_message();

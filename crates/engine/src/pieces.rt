@@ -51,7 +51,9 @@ impl SentPieces {
     ) -> Result<(), AllocError>
         requires length { length body.now ≤ MESSAGE_LIMIT }
         requires piece { i < piece_count (length body.now) }
-        ensures { OnOk result ((name : PieceName) → piece_named self.new name ≡ kept_one self.old from to partition message body.now i name) }
+        ensures { OnOk result ((name : PieceName)
+            → piece_named self.new name ≡ kept_one self.old from to partition message body.now i
+            name) }
     {
         let name = PieceName {
             from,
@@ -74,7 +76,9 @@ impl SentPieces {
         body: &[u8],
     ) -> Result<(), AllocError>
         requires { length body.now ≤ MESSAGE_LIMIT }
-        ensures { OnOk result ((name : PieceName) → piece_named self.new name ≡ kept_or self.old from to partition message body.now name) }
+        ensures { OnOk result ((name : PieceName)
+            → piece_named self.new name ≡ kept_or self.old from to partition message body.now
+            name) }
     {
         for i in 0..pieces(body.len()) {
             self.keep_one(from, to, partition, message, body, i)?;

@@ -16,11 +16,16 @@ name_field name = name ++ replicate (32 - length name) 0
 unfoldable pub record_nonce : ℕ → ℕ → List ℕ
 record_nonce level version = level ∷ drop 1 (to_be_bytes w64 version)
 
+-- the first 16 bytes of a record's plain text
+abbrev pub record_head : ℕ → List ℕ → ℕ → ℕ → ℕ → List ℕ
+record_head level name block version size =
+    (level ∷ length name ∷ to_be_bytes w16 size) ++ (block ∷ 0 ∷ 0 ∷ 0 ∷ [])
+    ++ to_be_bytes w64 version
+
 -- the plain text of a record: of a level's file, with the block's number, version and content
 unfoldable pub record_plain : ℕ → List ℕ → ℕ → ℕ → List ℕ → List ℕ
 record_plain level name block version content =
-    (level ∷ length name ∷ to_be_bytes w16 (length content)) ++ (block ∷ 0 ∷ 0 ∷ 0 ∷ [])
-    ++ to_be_bytes w64 version ++ name_field name ++ in_blocks content
+    record_head level name block version (length content) ++ name_field name ++ in_blocks content
 
 -- the record of a block
 unfoldable pub record_of : Sealer → KeyPair → ℕ → List ℕ → ℕ → ℕ → List ℕ → List ℕ

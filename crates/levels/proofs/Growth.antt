@@ -23,12 +23,16 @@ host_wider : (n : ℕ) (row : HostRow) → IsHostRow n row → IsHostRow (n + 1)
 host_wider n row h = record { least = h.least; most = h.most; partition = omega (arith, h.partition) }
 
 -- a level with a new name and a new value
-pub keeps_level : (roster : RosterView) (name : List ℕ) (level : Level) → IsRoster roster → is_taken roster name level ≡ false
-    → length roster.levels < 16 → IsLevelRow (record { name = name; level = level }) → IsRoster (with_level roster name level)
+pub keeps_level : (roster : RosterView) (name : List ℕ) (level : Level) → IsRoster roster
+    → is_taken roster name level ≡ false
+    → length roster.levels < 16 → IsLevelRow (record { name = name; level = level })
+    → IsRoster (with_level roster name level)
 keeps_level roster name level h new room row =
     let test = λ (r : LevelRow). bytes_eq r.name name || is_same_level r.level level in
-    let fresh = λ (i : ℕ) (a : LevelRow) (here : slice_get roster.levels i ≡ Some a). none_at test roster.levels i a new here in
-    let longer : length (roster.levels ++ record { name = name; level = level } ∷ []) ≡ length roster.levels + 1 = length-append roster.levels (record { name = name; level = level } ∷ []) in
+    let fresh = λ (i : ℕ) (a : LevelRow) (here : slice_get roster.levels i ≡ Some a). none_at test roster.levels i a
+    new here in
+    let longer : length (roster.levels ++ record { name = name; level = level } ∷ []) ≡ length roster.levels + 1 =
+    length-append roster.levels (record { name = name; level = level } ∷ []) in
     record {
       level_room = omega arith;
       key_room = omega (arith, h.key_room);
@@ -38,16 +42,24 @@ keeps_level roster name level h new room row =
       clear = λ is_clear. let none = h.clear is_clear in record { keys = none.keys; guard = none.guard };
       levels = all_push IsLevelRow roster.levels _ h.levels row;
       hosts = rw longer (all_kept _ _ (host_wider (length roster.levels)) roster.hosts h.hosts);
-      names_apart = apart_push (λ r. r.name) roster.levels _ h.names_apart (λ i a here same. let t = fresh i a here in let e = (bytes_eq-Decides a.name name).1 same in grind (arith, nat_tests));
-      values_apart = apart_push (λ r. r.level) roster.levels _ h.values_apart (λ i a here same. let t = fresh i a here in let r = ap (λ (l : Level). l.rank) same in let k = ap (λ (l : Level). l.cats) same in grind (arith, nat_tests));
+      names_apart = apart_push (λ r. r.name) roster.levels _ h.names_apart
+          (λ i a here same. let t = fresh i a here in let e = (bytes_eq-Decides a.name name).1 same in
+          grind (arith, nat_tests));
+      values_apart = apart_push (λ r. r.level) roster.levels _ h.values_apart
+          (λ i a here same. let t = fresh i a here in let r = ap (λ (l : Level). l.rank) same in
+          let k = ap (λ (l : Level). l.cats) same in grind (arith, nat_tests));
       addresses_apart = h.addresses_apart;
     }
 
 -- a host with a new address
-pub keeps_host : (roster : RosterView) (address : ℕ) (partition : Partition) → IsRoster roster → host_row roster address ≡ None
-    → length roster.hosts < 64 → IsHostRow (length roster.levels) (record { address = address; partition = partition }) → IsRoster (with_host roster address partition)
+pub keeps_host : (roster : RosterView) (address : ℕ) (partition : Partition) → IsRoster roster
+    → host_row roster address ≡ None
+    → length roster.hosts < 64 → IsHostRow (length roster.levels) (record { address = address; partition = partition })
+    → IsRoster (with_host roster address partition)
 keeps_host roster address partition h new room row =
-    let longer : length (roster.hosts ++ record { address = address; partition = partition } ∷ []) ≡ length roster.hosts + 1 = length-append roster.hosts (record { address = address; partition = partition } ∷ []) in
+    let longer : length (roster.hosts ++ record { address = address; partition = partition } ∷ [])
+    ≡ length roster.hosts + 1 = length-append roster.hosts
+    (record { address = address; partition = partition } ∷ []) in
     record {
       level_room = h.level_room;
       key_room = h.key_room;
@@ -59,18 +71,22 @@ keeps_host roster address partition h new room row =
       hosts = all_push (IsHostRow (length roster.levels)) roster.hosts _ h.hosts row;
       names_apart = h.names_apart;
       values_apart = h.values_apart;
-      addresses_apart = apart_push (λ r. r.address) roster.hosts _ h.addresses_apart (λ i a here same. let t = find_none_at (λ (r : HostRow). r.address == address) roster.hosts i a new here in grind (arith, nat_tests));
+      addresses_apart = apart_push (λ r. r.address) roster.hosts _ h.addresses_apart
+          (λ i a here same. let t = find_none_at (λ (r : HostRow). r.address == address) roster.hosts i a new here in
+          grind (arith, nat_tests));
     }
 
 clear≢des : {S : Type 0} → (s : Sealing) → s ≡ Clear → s ≡ Des → S
 clear≢des s a b = let e = sym a ∙ b in cc
 
 -- the key pair of one more level
-pub keeps_keys : (roster : RosterView) (pair : KeyPair) → IsRoster roster → roster.sealing ≡ Des → length roster.keys < length roster.levels
+pub keeps_keys : (roster : RosterView) (pair : KeyPair) → IsRoster roster → roster.sealing ≡ Des
+    → length roster.keys < length roster.levels
     → is_refused roster pair ≡ false → IsKeyPair pair → IsRoster (with_keys roster pair)
 keeps_keys roster pair h des room new blocks =
     let earlier = pairs_of roster in
-    let same : earlier ++ pair ∷ [] ≡ listed roster.guard ++ (roster.keys ++ pair ∷ []) = append_assoc (listed roster.guard) roster.keys (pair ∷ []) in
+    let same : earlier ++ pair ∷ [] ≡ listed roster.guard ++ (roster.keys ++ pair ∷ []) =
+    append_assoc (listed roster.guard) roster.keys (pair ∷ []) in
     record {
       level_room = h.level_room;
       key_room = omega (arith, length-append roster.keys (pair ∷ []));
@@ -80,7 +96,8 @@ keeps_keys roster pair h des room new blocks =
       hosts = h.hosts;
       names_apart = h.names_apart;
       values_apart = h.values_apart;
-      keys = subst (λ (pairs : List KeyPair). AreKeys (keys_of pairs)) same (pair_push earlier pair h.keys (both_fresh (keys_of earlier) pair new));
+      keys = subst (λ (pairs : List KeyPair). AreKeys (keys_of pairs)) same
+          (pair_push earlier pair h.keys (both_fresh (keys_of earlier) pair new));
       clear = λ is_clear. clear≢des roster.sealing is_clear des;
       addresses_apart = h.addresses_apart;
     }
@@ -95,7 +112,8 @@ pub keeps_guard : (roster : RosterView) (pair : KeyPair) → IsRoster roster →
 keeps_guard roster pair h des unset new blocks =
     let same : pairs_of roster ≡ roster.keys = ap (λ (g : Option KeyPair). listed g ++ roster.keys) unset in
     let keys : AreKeys (keys_of roster.keys) = subst (λ (pairs : List KeyPair). AreKeys (keys_of pairs)) same h.keys in
-    let free : is_pair_refused (keys_of roster.keys) pair ≡ false = subst (λ (pairs : List KeyPair). is_pair_refused (keys_of pairs) pair ≡ false) same new in
+    let free : is_pair_refused (keys_of roster.keys) pair ≡ false =
+    subst (λ (pairs : List KeyPair). is_pair_refused (keys_of pairs) pair ≡ false) same new in
     record {
       level_room = h.level_room;
       key_room = h.key_room;

@@ -10,13 +10,15 @@ pub name_is_short : (text : List ℕ) → is_level_name text ≡ true → length
 name_is_short text h = grind (arith, nat_tests)
 
 -- a name with zeros behind it
-pub padded_name : (text kept : List ℕ) → is_level_name text ≡ true → kept ≡ text → IsPadded (record { length = length text; text = kept ++ drop (length text) (replicate 8 0) })
+pub padded_name : (text kept : List ℕ) → is_level_name text ≡ true → kept ≡ text
+    → IsPadded (record { length = length text; text = kept ++ drop (length text) (replicate 8 0) })
 padded_name text kept name same =
     let short = name_is_short text name in
     let len : length kept ≡ length text = ap length same in
     record {
       short = short;
-      wide = length-append kept (drop (length text) (replicate 8 0)) ∙ omega (arith, length-drop {A = ℕ} (length text) (replicate 8 0));
+      wide = length-append kept (drop (length text) (replicate 8 0))
+          ∙ omega (arith, length-drop {A = ℕ} (length text) (replicate 8 0));
       zeros = drop_at kept _ (length text) len ∙ drop-replicate (length text) 8 0;
       name = rw (take_at kept (drop (length text) (replicate 8 0)) (length text) len, same) name;
     }

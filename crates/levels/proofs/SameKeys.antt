@@ -31,7 +31,8 @@ is_weak-Decides key = (
 -- a key that may stand behind others
 pub record IsFresh (earlier : List (List ℕ)) (key : List ℕ) : Type 0 where
   pub strong : ¬ IsWeak key
-  pub new : (i : ℕ) (a : List ℕ) → slice_get earlier i ≡ Some a → without_parity (block_bits a) ≢ without_parity (block_bits key)
+  pub new : (i : ℕ) (a : List ℕ) → slice_get earlier i ≡ Some a
+      → without_parity (block_bits a) ≢ without_parity (block_bits key)
 
 first_false : (a b : Bool) → (a || b) ≡ false → a ≡ false
 first_false true b h = cc
@@ -47,7 +48,8 @@ fresh earlier key h =
     let others = last_false (list_any (is_same_key key) weak_keys) (list_any (is_same_key key) earlier) h in
     record {
       strong = not_from_Decides _ (is_weak-Decides key) weak;
-      new = λ i a here same. not_from_Decides _ (is_same_key-Decides key a) (none_at (is_same_key key) earlier i a others here) (sym same);
+      new = λ i a here same. not_from_Decides _ (is_same_key-Decides key a)
+          (none_at (is_same_key key) earlier i a others here) (sym same);
     }
 
 -- two keys that may stand behind others
@@ -56,7 +58,8 @@ pub record AreFresh (earlier : List (List ℕ)) (pair : KeyPair) : Type 0 where
   pub check : IsFresh earlier pair.check
   pub two : ¬ SameKey pair.main pair.check
 
-pub both_fresh : (earlier : List (List ℕ)) (pair : KeyPair) → is_pair_refused earlier pair ≡ false → AreFresh earlier pair
+pub both_fresh : (earlier : List (List ℕ)) (pair : KeyPair) → is_pair_refused earlier pair ≡ false
+    → AreFresh earlier pair
 both_fresh earlier pair h =
     let a = is_key_refused earlier pair.main in
     let b = is_key_refused earlier pair.check in
@@ -88,21 +91,28 @@ fresh_push keys a b h two = record {
 }
 
 new_cons : (keys : List (List ℕ)) (a b : List ℕ) → IsFresh keys a → ¬ SameKey a b
-    → (i : ℕ) (x : List ℕ) → slice_get (b ∷ keys) i ≡ Some x → without_parity (block_bits x) ≢ without_parity (block_bits a)
-new_cons keys a b h two zero x here same = two (sym same ∙ ap (λ k. without_parity (block_bits k)) (sym (same_Some b x here)))
+    → (i : ℕ) (x : List ℕ) → slice_get (b ∷ keys) i ≡ Some x
+    → without_parity (block_bits x) ≢ without_parity (block_bits a)
+new_cons keys a b h two zero x here same =
+    two (sym same ∙ ap (λ k. without_parity (block_bits k)) (sym (same_Some b x here)))
 new_cons keys a b h two (suc i) x here same = h.new i x here same
 
 fresh_cons : (keys : List (List ℕ)) (a b : List ℕ) → IsFresh keys a → ¬ SameKey a b → IsFresh (b ∷ keys) a
 fresh_cons keys a b h two = record { strong = h.strong; new = new_cons keys a b h two }
 
-pub pair_push : (pairs : List KeyPair) (pair : KeyPair) → AreKeys (keys_of pairs) → AreFresh (keys_of pairs) pair → AreKeys (keys_of (pairs ++ pair ∷ []))
+pub pair_push : (pairs : List KeyPair) (pair : KeyPair) → AreKeys (keys_of pairs) → AreFresh (keys_of pairs) pair
+    → AreKeys (keys_of (pairs ++ pair ∷ []))
 pair_push pairs pair h new =
     let first = key_push (keys_of pairs) pair.main h new.main in
-    let second = key_push (keys_of pairs ++ pair.main ∷ []) pair.check first (fresh_push (keys_of pairs) pair.main pair.check new.check new.two) in
+    let second = key_push (keys_of pairs ++ pair.main ∷ []) pair.check first
+    (fresh_push (keys_of pairs) pair.main pair.check new.check new.two) in
     let e : keys_of (pairs ++ pair ∷ []) ≡ (keys_of pairs ++ pair.main ∷ []) ++ pair.check ∷ [] =
-    flat_map-append (λ (p : KeyPair). p.main ∷ p.check ∷ []) pairs (pair ∷ []) ∙ sym (append_assoc (keys_of pairs) (pair.main ∷ []) (pair.check ∷ [])) in
+    flat_map-append (λ (p : KeyPair). p.main ∷ p.check ∷ []) pairs (pair ∷ [])
+    ∙ sym (append_assoc (keys_of pairs) (pair.main ∷ []) (pair.check ∷ [])) in
     subst AreKeys (sym e) second
 
-pub pair_cons : (pairs : List KeyPair) (pair : KeyPair) → AreKeys (keys_of pairs) → AreFresh (keys_of pairs) pair → AreKeys (keys_of (pair ∷ pairs))
+pub pair_cons : (pairs : List KeyPair) (pair : KeyPair) → AreKeys (keys_of pairs) → AreFresh (keys_of pairs) pair
+    → AreKeys (keys_of (pair ∷ pairs))
 pair_cons pairs pair h new =
-    key_cons (pair.check ∷ keys_of pairs) pair.main (key_cons (keys_of pairs) pair.check h new.check) (fresh_cons (keys_of pairs) pair.main pair.check new.main new.two)
+    key_cons (pair.check ∷ keys_of pairs) pair.main (key_cons (keys_of pairs) pair.check h new.check)
+    (fresh_cons (keys_of pairs) pair.main pair.check new.main new.two)

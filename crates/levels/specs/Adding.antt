@@ -9,7 +9,8 @@ use Rattle.levels.specs.Rosters.{RosterView, is_taken, host_row, with_level, wit
 use Rattle.levels.specs.Keys.{keys_of, pairs_of, is_pair_refused}
 
 -- a level whose name and value are new, while there are fewer than 16, unless memory runs out
-abbrev pub AddsLevel : RosterView → RosterView → List ℕ → Level → Result Partition RosterStop → Type 0
+abbrev pub AddsLevel : RosterView → RosterView → List ℕ → Level → Result Partition RosterStop
+    → Type 0
 AddsLevel old new name level (Ok partition) =
     (is_taken old name level ≡ false) × (length old.levels < 16)
     × (partition.0 ≡ length old.levels) × (new ≡ with_level old name level)
@@ -41,9 +42,11 @@ SetsGuard old new pair (Err Twice) = ⊥
 SetsGuard old new pair (Err Many) = ⊥
 
 -- a host whose address is new, while there are fewer than 64, unless memory runs out
-abbrev pub AddsHost : RosterView → RosterView → ℕ → Partition → Result (Unit {0}) RosterStop → Type 0
+abbrev pub AddsHost : RosterView → RosterView → ℕ → Partition → Result (Unit {0}) RosterStop
+    → Type 0
 AddsHost old new address partition (Ok done) =
-    (host_row old address ≡ None) × (length old.hosts < 64) × (new ≡ with_host old address partition)
+    (host_row old address ≡ None) × (length old.hosts < 64)
+    × (new ≡ with_host old address partition)
 AddsHost old new address partition (Err Twice) = IsSome (host_row old address) × (new ≡ old)
 AddsHost old new address partition (Err Many) =
     (host_row old address ≡ None) × (length old.hosts ≡ 64) × (new ≡ old)

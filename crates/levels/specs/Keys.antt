@@ -54,9 +54,11 @@ is_same_key a b = pointwise beq (without_parity (block_bits a)) (without_parity 
 
 -- whether a key is weak or the same as an earlier one
 abbrev pub is_key_refused : List (List ℕ) → List ℕ → Bool
-is_key_refused earlier key = list_any (is_same_key key) weak_keys || list_any (is_same_key key) earlier
+is_key_refused earlier key =
+    list_any (is_same_key key) weak_keys || list_any (is_same_key key) earlier
 
 -- whether one of two keys is weak, or the same as the other one or as an earlier one
 abbrev pub is_pair_refused : List (List ℕ) → KeyPair → Bool
 is_pair_refused earlier pair =
-    is_key_refused earlier pair.main || is_key_refused earlier pair.check || is_same_key pair.main pair.check
+    is_key_refused earlier pair.main || is_key_refused earlier pair.check
+    || is_same_key pair.main pair.check

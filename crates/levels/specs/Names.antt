@@ -12,4 +12,6 @@ is_name_mark c = is_upper c || (nat_le 48 c && nat_le c 57)
 
 -- one to eight characters, `A` to `Z` and then `A` to `Z` or `0` to `9`
 abbrev pub is_level_name : List ℕ → Bool
-is_level_name text = nat_lt 0 (length text) && nat_le (length text) 8 && is_upper (slice_index text 0) && list_all is_name_mark text
+is_level_name text =
+    nat_lt 0 (length text) && nat_le (length text) 8 && is_upper (slice_index text 0)
+    && list_all is_name_mark text

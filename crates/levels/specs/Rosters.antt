@@ -26,11 +26,14 @@ is_same_level x y = x.rank == y.rank && x.cats == y.cats
 
 -- the partition of a level's name
 abbrev pub level_named : RosterView → List ℕ → Option Partition
-level_named roster name = option_map (λ place. record { 0 = place }) (position (λ row. bytes_eq row.name name) roster.levels)
+level_named roster name =
+    option_map (λ place. record { 0 = place })
+    (position (λ row. bytes_eq row.name name) roster.levels)
 
 -- whether a level has the name or the value
 abbrev pub is_taken : RosterView → List ℕ → Level → Bool
-is_taken roster name level = list_any (λ row. bytes_eq row.name name || is_same_level row.level level) roster.levels
+is_taken roster name level =
+    list_any (λ row. bytes_eq row.name name || is_same_level row.level level) roster.levels
 
 -- the row of an address
 abbrev pub host_row : RosterView → ℕ → Option HostRow
@@ -39,11 +42,13 @@ host_row roster address = find (λ row. row.address == address) roster.hosts
 -- the partition of a party, where the roster has the party
 abbrev pub partition_of : RosterView → Party → Option Partition
 partition_of roster (Host address) = option_map (λ row. row.partition) (host_row roster address)
-partition_of roster (Manager partition) = if nat_lt partition.0 (length roster.levels) then Some partition else None
+partition_of roster (Manager partition) =
+    if nat_lt partition.0 (length roster.levels) then Some partition else None
 
 abbrev pub level_at : RosterView → Option Partition → Option Level
 level_at roster None = None
-level_at roster (Some partition) = option_map (λ row. row.level) (slice_get roster.levels partition.0)
+level_at roster (Some partition) =
+    option_map (λ row. row.level) (slice_get roster.levels partition.0)
 
 abbrev pub name_at : RosterView → Partition → Option (List ℕ)
 name_at roster partition = option_map (λ row. row.name) (slice_get roster.levels partition.0)
@@ -79,11 +84,13 @@ is_other (Some but) address = not (address == but)
 -- the addresses of a partition's hosts in script order, one of them left out
 abbrev pub addresses_but : List HostRow → Partition → Option ℕ → List ℕ
 addresses_but hosts partition but =
-    map (λ row. row.address) (filter (λ row. row.partition.0 == partition.0 && is_other but row.address) hosts)
+    map (λ row. row.address)
+    (filter (λ row. row.partition.0 == partition.0 && is_other but row.address) hosts)
 
 -- the addresses of a party's partners in a partition, where 0 stands for the manager unit
 abbrev pub partners_in : RosterView → Party → Partition → List ℕ
-partners_in roster (Host address) partition = 0 ∷ addresses_but roster.hosts partition (Some address)
+partners_in roster (Host address) partition =
+    0 ∷ addresses_but roster.hosts partition (Some address)
 partners_in roster (Manager own) partition = addresses_but roster.hosts partition None
 
 abbrev pub partners_of : RosterView → Party → Option (List ℕ)
@@ -101,4 +108,5 @@ with_guard roster pair = record roster { guard = Some pair }
 
 abbrev pub with_host : RosterView → ℕ → Partition → RosterView
 with_host roster address partition =
-    record roster { hosts = roster.hosts ++ record { address = address; partition = partition } ∷ [] }
+    let row : HostRow = record { address = address; partition = partition } in
+    record roster { hosts = roster.hosts ++ row ∷ [] }

@@ -74,7 +74,8 @@ impl Model for Roster {
 }
 
 fn is_taken(levels: &[LevelRow], name: &[u8], level: Level) -> bool
-    ensures { result ≡ list_any (λ row. bytes_eq row.name name.now || is_same_level row.level level) levels.now }
+    ensures { result ≡
+        list_any (λ row. bytes_eq row.name name.now || is_same_level row.level level) levels.now }
 {
     for row in levels {
         if row.name.bytes() == name || row.level == level {
@@ -110,7 +111,8 @@ fn push_addresses(
     partition: Partition,
     but: Option<u8>,
 ) -> Result<(), AllocError>
-    ensures { OnOk result (found.new.items ≡ found.old.items ++ addresses_but hosts.now partition but) }
+    ensures { OnOk result (found.new.items ≡
+        found.old.items ++ addresses_but hosts.now partition but) }
 {
     for row in hosts {
         if row.partition == partition && Some(row.address) != but {
@@ -256,7 +258,8 @@ impl Roster {
     /// The i-th host in script order, from 0.
     pub fn host_at(&self, i: u8) -> (u8, Partition)
         requires { i < length self.now.hosts }
-        ensures { slice_get self.now.hosts i ≡ Some (record { address = result.0; partition = result.1 }) }
+        ensures { slice_get self.now.hosts i
+            ≡ Some (record { address = result.0; partition = result.1 }) }
     {
         let row = self.hosts[i as usize];
         (row.address, row.partition)

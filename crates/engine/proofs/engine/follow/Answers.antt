@@ -15,7 +15,14 @@ loop-event-preserved c =
     let items = c.events-event-items.result.now in
     let event = c.event-item.result in
     let same = c.roster-roster.ensures.roster in
-    let there : slice_get script.events k ≡ Some event = ap (λ (events : List Event). slice_get events k) (sym c.events-event-items.ensures) ∙ slice_get_read items (length items) k event refl c.loop-event-test.true c.event-item.is in
+    let there : slice_get script.events k ≡ Some event =
+    ap (λ (events : List Event). slice_get events k) (sym c.events-event-items.ensures)
+    ∙ slice_get_read items (length items) k event refl c.loop-event-test.true c.event-item.is in
     let past = after script.events k in
-    let stepped = c.in_ok-step.ensures past (few_before script k event c.roster-roster.ensures.kept there) (subst (λ (r : RosterView). Stands r past c.loop-event.network) (sym same) c.loop-event.invariant) in
-    subst (λ p. Stands script.roster p c.step.new.network) (sym (after_more script.events k event there)) (subst (λ (r : RosterView). Stands r (event ∷ past) c.step.new.network) same stepped)
+    let stepped = c.in_ok-step.ensures past
+    (few_before script k event c.roster-roster.ensures.kept there)
+    (subst (λ (r : RosterView). Stands r past c.loop-event.network) (sym same)
+    c.loop-event.invariant) in
+    subst (λ p. Stands script.roster p c.step.new.network)
+    (sym (after_more script.events k event there))
+    (subst (λ (r : RosterView). Stands r (event ∷ past) c.step.new.network) same stepped)

@@ -11,12 +11,16 @@ returns-in-Arrive c =
     let name = c.name_of.result in
     let is =
     c.in-Arrive.is
-    ∙ ap (λ (s : Stream). Arrive s c.in-Arrive.message c.in-Arrive.piece c.in-Arrive.at) c.name_of.ensures.stream
-    ∙ ap (λ j. Arrive (between name.from name.to) j c.in-Arrive.piece c.in-Arrive.at) (sym c.name_of.ensures.message)
-    ∙ ap (λ i. Arrive (between name.from name.to) name.message i c.in-Arrive.at) (sym c.name_of.ensures.piece)
+    ∙ ap (λ (s : Stream). Arrive s c.in-Arrive.message c.in-Arrive.piece c.in-Arrive.at)
+    c.name_of.ensures.stream
+    ∙ ap (λ j. Arrive (between name.from name.to) j c.in-Arrive.piece c.in-Arrive.at)
+    (sym c.name_of.ensures.message)
+    ∙ ap (λ i. Arrive (between name.from name.to) name.message i c.in-Arrive.at)
+    (sym c.name_of.ensures.piece)
     ∙ ap (Arrive (between name.from name.to) name.message name.piece) c.host_of-in-Arrive.ensures in
     on_ok_weaker c.arrive.result
-    (λ arrives past few stands. subst (λ (e : Event). Stands c.args.roster.now (e ∷ past) c.arrive.new.self) (sym is) (arrives c.args.roster.now past stands))
+    (λ arrives past few stands. subst (λ (e : Event). Stands c.args.roster.now (e ∷ past)
+    c.arrive.new.self) (sym is) (arrives c.args.roster.now past stands))
     c.arrive.ensures
 
 pub returns-in-Carry : goal.returns-in-Carry
@@ -27,5 +31,6 @@ returns-in-Carry c =
     ∙ ap (λ (s : Stream). Carry s c.in-Carry.message c.in-Carry.at) c.name_of-first.ensures.stream
     ∙ ap (Carry (between first.from first.to) c.in-Carry.message) c.host_of-in-Carry.ensures in
     on_ok_weaker c.carry.result
-    (λ carries past few stands. subst (λ (e : Event). Stands c.args.roster.now (e ∷ past) c.carry.new.self) (sym is) (carries c.args.roster.now past stands))
+    (λ carries past few stands. subst (λ (e : Event). Stands c.args.roster.now (e ∷ past)
+    c.carry.new.self) (sym is) (carries c.args.roster.now past stands))
     c.carry.ensures

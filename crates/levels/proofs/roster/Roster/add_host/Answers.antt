@@ -19,4 +19,5 @@ invariant_of-self-2 c =
     let P : RosterView → Type 0 = λ roster. c.args.partition.0 < length roster.levels in
     let within = subst P (sym c.self.view_is) c.requires.partition in
     let none : host_row (view_of c.self.inside) c.args.address ≡ None = grind arith in
-    rw c.in_ok-push.ensures.items (keeps_host (view_of c.self.inside) c.args.address c.args.partition c.self.invariant none (omega arith) (record { least = omega arith; most = omega arith; partition = within }))
+    rw c.in_ok-push.ensures.items (keeps_host (view_of c.self.inside) c.args.address c.args.partition c.self.invariant
+    none (omega arith) (record { least = omega arith; most = omega arith; partition = within }))

@@ -17,4 +17,5 @@ returns-in_err-push c =
 pub invariant_of-self-2 : goal.invariant_of-self-2
 invariant_of-self-2 c =
     let new : is_taken (view_of c.self.inside) c.args.name c.args.level ≡ false = grind arith in
-    rw c.in_ok-push.ensures.items (keeps_level (view_of c.self.inside) c.args.name c.args.level c.self.invariant new (omega arith) (record { name = c.bytes.ensures.name; rank = c.requires; cats = omega arith }))
+    rw c.in_ok-push.ensures.items (keeps_level (view_of c.self.inside) c.args.name c.args.level c.self.invariant new
+    (omega arith) (record { name = c.bytes.ensures.name; rank = c.requires; cats = omega arith }))

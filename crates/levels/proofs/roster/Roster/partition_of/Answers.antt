@@ -15,6 +15,8 @@ returns-in-Some-clause-found c =
 pub returns-in-Some-clause-within : goal.returns-in-Some-clause-within
 returns-in-Some-clause-within c =
     let found : host_row (view_of c.self.inside) c.in-Host.address ≡ Some c.in-Some.row = grind arith in
-    let row = find_all (IsHostRow (length c.self.inside.levels.items)) (λ (row : HostRow). row.address == c.in-Host.address) c.self.inside.hosts.items c.in-Some.row c.self.invariant.hosts found in
+    let row = find_all (IsHostRow (length c.self.inside.levels.items))
+    (λ (row : HostRow). row.address == c.in-Host.address) c.self.inside.hosts.items c.in-Some.row
+    c.self.invariant.hosts found in
     let P : RosterView → Type 0 = λ roster. c.in-Some.row.partition.0 < length roster.levels in
     subst P c.self.view_is row.partition
