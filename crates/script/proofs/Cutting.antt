@@ -8,34 +8,47 @@ use Rattle.std.proofs.lemmas.List.{take-append-drop, drop_more, take_rest, take_
 use Rattle.std.proofs.lemmas.List.Splits.{slice_split_at, slice_split_none, length-slice_split}
 
 -- a mark stands at place i, and none before it
-pub cut_at : (mark : ℕ) (xs : List ℕ) (i : ℕ) → i < length xs → get_or xs i 0 ≡ mark → All (λ c. eqb c mark ≡ false) (take i xs)
-    → slice_split (λ c. eqb c mark) xs ≡ take i xs ∷ slice_split (λ c. eqb c mark) (take (length xs - (i + 1)) (drop (i + 1) xs))
+pub cut_at : (mark : ℕ) (xs : List ℕ) (i : ℕ) → i < length xs → get_or xs i 0 ≡ mark
+    → All (λ c. eqb c mark ≡ false) (take i xs)
+    → slice_split (λ c. eqb c mark) xs ≡ take i xs
+    ∷ slice_split (λ c. eqb c mark) (take (length xs - (i + 1)) (drop (i + 1) xs))
 cut_at mark xs i lt is none =
     let p = λ (c : ℕ). eqb c mark in
-    let around : xs ≡ take i xs ++ (mark ∷ drop (i + 1) xs) = sym (take-append-drop i xs) ∙ ap (λ (r : List ℕ). take i xs ++ r) (drop_more xs i 0 lt ∙ rw is refl) in
-    ap (slice_split p) around ∙ slice_split_at p (take i xs) mark (drop (i + 1) xs) none (eq-eqb mark mark refl)
+    let around : xs ≡ take i xs ++ (mark ∷ drop (i + 1) xs) = sym (take-append-drop i xs)
+    ∙ ap (λ (r : List ℕ). take i xs ++ r) (drop_more xs i 0 lt ∙ rw is refl) in
+    ap (slice_split p) around ∙ slice_split_at p (take i xs) mark (drop (i + 1) xs) none
+    (eq-eqb mark mark refl)
     ∙ ap (λ (r : List ℕ). take i xs ∷ slice_split p r) (sym (take_rest xs (i + 1)))
 
-pub uncut : (mark : ℕ) (xs : List ℕ) (i : ℕ) → length xs ≤ i → All (λ c. eqb c mark ≡ false) (take i xs) → slice_split (λ c. eqb c mark) xs ≡ xs ∷ []
+pub uncut : (mark : ℕ) (xs : List ℕ) (i : ℕ) → length xs ≤ i
+    → All (λ c. eqb c mark ≡ false) (take i xs) → slice_split (λ c. eqb c mark) xs ≡ xs ∷ []
 uncut mark xs i le none = slice_split_none (λ c. eqb c mark) xs (rw take_all at none)
 
 -- a text has at least one part
-pub some_part : (mark : ℕ) (text : List ℕ) → (first : List ℕ) × (more : List (List ℕ)) × (slice_split (λ c. eqb c mark) text ≡ first ∷ more)
-some_part mark text = first_of (slice_split (λ c. eqb c mark) text) (omega (arith, length-slice_split (λ c. eqb c mark) text))
+pub some_part : (mark : ℕ) (text : List ℕ) → (first : List ℕ) × (more : List (List ℕ))
+    × (slice_split (λ c. eqb c mark) text ≡ first ∷ more)
+some_part mark text = first_of (slice_split (λ c. eqb c mark) text)
+    (omega (arith, length-slice_split (λ c. eqb c mark) text))
   where
-    first_of : (texts : List (List ℕ)) → 0 < length texts → (first : List ℕ) × (more : List (List ℕ)) × (texts ≡ first ∷ more)
+    first_of : (texts : List (List ℕ)) → 0 < length texts → (first : List ℕ)
+        × (more : List (List ℕ)) × (texts ≡ first ∷ more)
     first_of [] some = absurd (omega arith)
     first_of (first ∷ more) some = (first, more, refl)
 
 -- a text with a mark is no last part
-pub not_one : (mark : ℕ) (a text : List ℕ) (texts : List (List ℕ)) → texts ≡ a ∷ slice_split (λ c. eqb c mark) text → as_one texts ≡ None
+pub not_one : (mark : ℕ) (a text : List ℕ) (texts : List (List ℕ))
+    → texts ≡ a ∷ slice_split (λ c. eqb c mark) text → as_one texts ≡ None
 not_one mark a text texts e = let s = some_part mark text in rw (e, s.2) refl
 
-pub not_two : (mark : ℕ) (a b text : List ℕ) (texts rest : List (List ℕ)) → texts ≡ a ∷ rest → rest ≡ b ∷ slice_split (λ c. eqb c mark) text → as_two texts ≡ None
+pub not_two : (mark : ℕ) (a b text : List ℕ) (texts rest : List (List ℕ)) → texts ≡ a ∷ rest
+    → rest ≡ b ∷ slice_split (λ c. eqb c mark) text → as_two texts ≡ None
 not_two mark a b text texts rest e h = let s = some_part mark text in rw (e, h, s.2) refl
 
-pub not_three : (mark : ℕ) (a b d text : List ℕ) (texts rest last : List (List ℕ)) → texts ≡ a ∷ rest → rest ≡ b ∷ last → last ≡ d ∷ slice_split (λ c. eqb c mark) text → as_three texts ≡ None
-not_three mark a b d text texts rest last e h g = let s = some_part mark text in rw (e, h, g, s.2) refl
+pub not_three : (mark : ℕ) (a b d text : List ℕ) (texts rest last : List (List ℕ))
+    → texts ≡ a ∷ rest → rest ≡ b ∷ last → last ≡ d ∷ slice_split (λ c. eqb c mark) text
+    → as_three texts ≡ None
+not_three mark a b d text texts rest last e h g = let s = some_part mark text in
+    rw (e, h, g, s.2) refl
 
 pub something_behind : (made : Line) (text : List ℕ) → nothing made (words text) ≡ None
 something_behind made text = let s = some_part 32 text in rw s.2 refl

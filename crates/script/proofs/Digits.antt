@@ -8,7 +8,8 @@ value_on_le n [] = omega arith
 value_on_le n (c ∷ digits) = omega (arith, value_on_le (n * 10 + (c - 48)) digits)
 
 -- once a digit has made a number too great, it stays so
-pub value_above : (n high : ℕ) (word : List ℕ) (i : ℕ) → i < length word → high < n * 10 + (get_or word i 0 - 48) → high < value_on n (drop i word)
+pub value_above : (n high : ℕ) (word : List ℕ) (i : ℕ) → i < length word
+    → high < n * 10 + (get_or word i 0 - 48) → high < value_on n (drop i word)
 value_above n high word i lt above =
     let le = value_on_le (n * 10 + (get_or word i 0 - 48)) (drop (i + 1) word) in
     rw (drop_more word i 0 lt) (omega (arith, le, above))

@@ -13,7 +13,8 @@ use Rattle.events.specs.Words.{hex_word}
 use Rattle.script.specs.inside.Readers.{hex_read, is_lower_digit, decoded}
 use Rattle.script.proofs.Tools.{both, guard_other, some_same, is_ink, IsInk, weaker}
 
-bind_ok : {A B : Type 0} (r : Result A FromHexError) (f : A → Result B FromHexError) (y : B) → (r >>= f) ≡ Ok y → (x : A) × (r ≡ Ok x) × (f x ≡ Ok y)
+bind_ok : {A B : Type 0} (r : Result A FromHexError) (f : A → Result B FromHexError) (y : B)
+    → (r >>= f) ≡ Ok y → (x : A) × (r ≡ Ok x) × (f x ≡ Ok y)
 bind_ok (Ok x) f y e = (x, refl, e)
 bind_ok (Err d) f y e = absurd cc
 
@@ -33,7 +34,8 @@ each_below-at p (suc n) k h lt =
 
 -- whether a lower-case digit is the digit of its value
 abbrev is_own_digit : ℕ → Bool
-is_own_digit c = not (is_lower_digit c) || eqb (slice_index lower_digits (unwrap_or (hex_digit_value c) 16)) c
+is_own_digit c = not (is_lower_digit c)
+    || eqb (slice_index lower_digits (unwrap_or (hex_digit_value c) 16)) c
 
 abbrev gives_lower : ℕ → Bool
 gives_lower value = is_lower_digit (slice_index lower_digits value)
@@ -49,10 +51,12 @@ or_second : (a b : Bool) → (not a || b) ≡ true → a ≡ true → b ≡ true
 or_second true b h e = h
 or_second false b h e = absurd cc
 
-digit_again : (c v : ℕ) → is_lower_digit c ≡ true → hex_digit_value c ≡ Some v → slice_index lower_digits v ≡ c
+digit_again : (c v : ℕ) → is_lower_digit c ≡ true → hex_digit_value c ≡ Some v
+    → slice_index lower_digits v ≡ c
 digit_again c v low e =
     let own = each_below-at is_own_digit 103 c refl (digit_least c low) in
-    let same = or_second (is_lower_digit c) (eqb (slice_index lower_digits (unwrap_or (hex_digit_value c) 16)) c) own low in
+    let same = or_second (is_lower_digit c)
+    (eqb (slice_index lower_digits (unwrap_or (hex_digit_value c) 16)) c) own low in
     rw e at (eqb-true _ _ same)
 
 value_small : (c v : ℕ) → hex_digit_value c ≡ Some v → v < 16
@@ -62,7 +66,8 @@ ok_same : {A : Type 0} (x y : A) → ◌≡◌ {A = Result A FromHexError} (Ok x
 ok_same x y e = cc
 
 -- lower-case digits, decoded and encoded, are the same digits
-encoded_again : (i : ℕ) (digits bytes : List ℕ) → list_all is_lower_digit digits ≡ true → decode_pairs i digits ≡ Ok bytes → encode_with lower_digits bytes ≡ digits
+encoded_again : (i : ℕ) (digits bytes : List ℕ) → list_all is_lower_digit digits ≡ true
+    → decode_pairs i digits ≡ Ok bytes → encode_with lower_digits bytes ≡ digits
 unfolding decode_pairs encode_with
 encoded_again i [] bytes low h = let e = ok_same [] bytes h in rw (← e) refl
 encoded_again i (a ∷ []) bytes low h = absurd cc
@@ -77,7 +82,8 @@ encoded_again i (a ∷ b ∷ rest) bytes low h =
     let value_b = value_read b (i + 1) second.0 (hex_digit_value b) second.1 in
     let small_a = value_small a first.0 value_a in
     let small_b = value_small b second.0 value_b in
-    let sum : first.0 * 16 + second.0 ≡ byte.0 = ok_same (first.0 * 16 + second.0) byte.0 second.2 in
+    let sum : first.0 * 16 + second.0 ≡ byte.0 =
+    ok_same (first.0 * 16 + second.0) byte.0 second.2 in
     let high : byte.0 / 16 ≡ first.0 = omega arith in
     let rest_of : byte.0 % 16 ≡ second.0 = omega arith in
     let others = encoded_again (i + 2) rest more.0 low_b.1 more.1 in
@@ -86,7 +92,8 @@ encoded_again i (a ∷ b ∷ rest) bytes low h =
     let digit_b = digit_again b second.0 low_b.0 value_b in
     rw (← all) (rw (high, rest_of, digit_a, digit_b, others) refl)
 
-encoded_lower : (bytes : List ℕ) → IsBytes bytes → list_all is_lower_digit (encode_with lower_digits bytes) ≡ true
+encoded_lower : (bytes : List ℕ) → IsBytes bytes
+    → list_all is_lower_digit (encode_with lower_digits bytes) ≡ true
 unfolding encode_with
 encoded_lower [] fits = refl
 encoded_lower (byte ∷ bytes) fits =
@@ -95,7 +102,8 @@ encoded_lower (byte ∷ bytes) fits =
     let low = each_below-at gives_lower 16 (byte % 16) refl (omega arith) in
     rw (high, low) (encoded_lower bytes (λ i. fits (suc i)))
 
-some_decoded : (r : Result (List ℕ) FromHexError) (bytes : List ℕ) → decoded r ≡ Some bytes → r ≡ Ok bytes
+some_decoded : (r : Result (List ℕ) FromHexError) (bytes : List ℕ) → decoded r ≡ Some bytes
+    → r ≡ Ok bytes
 some_decoded (Ok xs) bytes e = cc
 some_decoded (Err d) bytes e = absurd cc
 
@@ -103,7 +111,8 @@ long_hex : (bytes : List ℕ) → 0 < length bytes → hex_word bytes ≡ encode
 long_hex [] h = absurd (omega arith)
 long_hex (byte ∷ bytes) h = refl
 
-pub hex_takes : (word bytes : List ℕ) → hex_read word ≡ Some bytes → (word ≡ hex_word bytes) × IsBytes bytes
+pub hex_takes : (word bytes : List ℕ) → hex_read word ≡ Some bytes → (word ≡ hex_word bytes)
+    × IsBytes bytes
 unfolding hex_read
 hex_takes word bytes e =
     elim (cases_Bool (bytes_eq word (codes "-"))) [
@@ -113,7 +122,8 @@ hex_takes word bytes e =
           subst (λ (x : List ℕ). (word ≡ hex_word x) × IsBytes x) none (dash, λ i. omega arith)
       | inr not ↦
           let e' = rw not at e in
-          let g = guard_other (list_all is_lower_digit word && ltb 0 (length word)) (decoded (decode_of word)) bytes e' in
+          let g = guard_other (list_all is_lower_digit word && ltb 0 (length word))
+          (decoded (decode_of word)) bytes e' in
           let some = both (list_all is_lower_digit word) (ltb 0 (length word)) g.0 in
           let d = some_decoded (decode_of word) bytes g.1 in
           let ok = decode_of-ok word bytes d in
@@ -141,4 +151,5 @@ hex_again (byte ∷ bytes) fits =
 
 pub hex_ink : (bytes : List ℕ) → IsBytes bytes → IsInk (hex_word bytes)
 hex_ink [] fits = refl
-hex_ink (byte ∷ bytes) fits = weaker is_lower_digit is_ink (λ c h. grind (arith, nat_tests)) (encode_lower (byte ∷ bytes)) (encoded_lower (byte ∷ bytes) fits)
+hex_ink (byte ∷ bytes) fits = weaker is_lower_digit is_ink (λ c h. grind (arith, nat_tests))
+    (encode_lower (byte ∷ bytes)) (encoded_lower (byte ∷ bytes) fits)

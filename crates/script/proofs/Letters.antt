@@ -17,7 +17,8 @@ no_letters zero letter = refl
 no_letters (suc n) letter = no_letters n (letter + 1)
 
 -- the letters of what was read, and what stands behind them, are the word
-letters-rising : (n letter : ℕ) (word : List ℕ) → letters n letter (rising n letter word).0 ++ (rising n letter word).1 ≡ word
+letters-rising : (n letter : ℕ) (word : List ℕ)
+    → letters n letter (rising n letter word).0 ++ (rising n letter word).1 ≡ word
 unfolding letters rising
 letters-rising zero letter word = refl
 letters-rising (suc n) letter [] = no_letters n (letter + 1)
@@ -27,7 +28,9 @@ letters-rising (suc n) letter (c ∷ word) =
           let cats = (rising n (letter + 1) word).0 in
           let odd : (1 + 2 * cats) % 2 ≡ 1 = omega arith in
           let half : (1 + 2 * cats) / 2 ≡ cats = omega arith in
-          rw (eq-eqb c letter same, odd, half) (ap (λ (x : List ℕ). letter ∷ x) (letters-rising n (letter + 1) word) ∙ ap (λ (x : ℕ). x ∷ word) (sym same))
+          rw (eq-eqb c letter same, odd, half)
+          (ap (λ (x : List ℕ). letter ∷ x) (letters-rising n (letter + 1) word)
+          ∙ ap (λ (x : ℕ). x ∷ word) (sym same))
       | inr other ↦
           let cats = (rising n (letter + 1) (c ∷ word)).0 in
           let even : (2 * cats) % 2 ≡ 0 = omega arith in
@@ -41,12 +44,18 @@ rising-nil zero letter = refl
 rising-nil (suc n) letter = refl
 
 -- a letter that is left out
-rising_past : (n letter : ℕ) (word : List ℕ) → AllByRecursion (λ c. letter + 1 ≤ c) word → rising (suc n) letter word ≡ (2 * (rising n (letter + 1) word).0, (rising n (letter + 1) word).1)
+rising_past : (n letter : ℕ) (word : List ℕ) → AllByRecursion (λ c. letter + 1 ≤ c) word
+    → rising (suc n) letter word ≡ (
+      2 * (rising n (letter + 1) word).0,
+      (rising n (letter + 1) word).1,
+    )
 unfolding rising
 rising_past n letter [] above = rw (rising-nil n (letter + 1)) refl
-rising_past n letter (c ∷ word) above = rw (ne_eqb c letter (λ e. absurd (omega (arith, above.0)))) refl
+rising_past n letter (c ∷ word) above =
+    rw (ne_eqb c letter (λ e. absurd (omega (arith, above.0)))) refl
 
-letters_above : (n low letter cats : ℕ) → low ≤ letter → AllByRecursion (λ c. low ≤ c) (letters n letter cats)
+letters_above : (n low letter cats : ℕ) → low ≤ letter
+    → AllByRecursion (λ c. low ≤ c) (letters n letter cats)
 unfolding letters
 letters_above zero low letter cats le = tt
 letters_above (suc n) low letter cats le =
@@ -55,7 +64,8 @@ letters_above (suc n) low letter cats le =
       | inr not ↦ rw not (letters_above n low (letter + 1) (cats / 2) (omega arith))
     ]
 
-rising-letters : (n letter cats : ℕ) → cats < 2 ^ n → rising n letter (letters n letter cats) ≡ (cats, [])
+rising-letters : (n letter cats : ℕ) → cats < 2 ^ n
+    → rising n letter (letters n letter cats) ≡ (cats, [])
 unfolding letters rising
 rising-letters zero letter cats lt = let e : cats ≡ 0 = omega arith in rw e refl
 rising-letters (suc n) letter cats lt =
@@ -68,7 +78,9 @@ rising-letters (suc n) letter cats lt =
           rw (is, eq-eqb letter letter refl, higher) (ap (λ (x : ℕ). (x, [])) sum)
       | inr not ↦
           let double : 2 * (cats / 2) ≡ cats = grind (arith, nat_tests) in
-          rw not (rising_past n letter (letters n (letter + 1) (cats / 2)) (letters_above n (letter + 1) (letter + 1) (cats / 2) (omega arith)) ∙ rw higher (ap (λ (x : ℕ). (x, [])) double))
+          rw not (rising_past n letter (letters n (letter + 1) (cats / 2))
+          (letters_above n (letter + 1) (letter + 1) (cats / 2) (omega arith))
+          ∙ rw higher (ap (λ (x : ℕ). (x, [])) double))
     ]
 
 nothing_some : (cats : ℕ) → None ≡ Some cats → ⊥
@@ -83,7 +95,12 @@ unfolding cats_read
 cats_again cats lt =
     elim (cases_Bool (eqb cats 0)) [
       | inl is ↦ (let e : cats ≡ 0 = eqb-true cats 0 is in rw e refl)
-      | inr not ↦ rw (not, no_dash (letters 16 97 cats) (letters_above 16 97 97 cats (omega arith)), rising-letters 16 97 cats lt, not) refl
+      | inr not ↦ rw (
+        not,
+        no_dash (letters 16 97 cats) (letters_above 16 97 97 cats (omega arith)),
+        rising-letters 16 97 cats lt,
+        not,
+      ) refl
     ]
 
 rising_below : (n letter : ℕ) (word : List ℕ) → (rising n letter word).0 < 2 ^ n
@@ -99,15 +116,18 @@ rising_below (suc n) letter (c ∷ word) =
 word_of : (cats : ℕ) → eqb cats 0 ≡ false → cats_word cats ≡ letters 16 97 cats
 word_of cats h = rw h refl
 
-wholly : (read : ℕ × List ℕ) (cats : ℕ) → whole read ≡ Some cats → (read ≡ (cats, [])) × (eqb cats 0 ≡ false)
+wholly : (read : ℕ × List ℕ) (cats : ℕ) → whole read ≡ Some cats → (read ≡ (cats, []))
+    × (eqb cats 0 ≡ false)
 wholly (n, []) cats e =
     elim (cases_Bool (eqb n 0)) [
       | inl is ↦ absurd (nothing_some cats (rw is at e))
-      | inr not ↦ (let s = some_same n cats (rw not at e) in (ap (λ (x : ℕ). (x, [])) s, subst (λ (x : ℕ). eqb x 0 ≡ false) s not))
+      | inr not ↦ (let s = some_same n cats (rw not at e) in
+          (ap (λ (x : ℕ). (x, [])) s, subst (λ (x : ℕ). eqb x 0 ≡ false) s not))
     ]
 wholly (n, c ∷ word) cats e = absurd (nothing_some cats e)
 
-pub cats_takes : (word : List ℕ) (cats : ℕ) → cats_read word ≡ Some cats → (word ≡ cats_word cats) × (cats < 2 ^ 16)
+pub cats_takes : (word : List ℕ) (cats : ℕ) → cats_read word ≡ Some cats → (word ≡ cats_word cats)
+    × (cats < 2 ^ 16)
 unfolding cats_read
 cats_takes word cats e =
     elim (cases_Bool (bytes_eq word (codes "-"))) [
@@ -116,9 +136,14 @@ cats_takes word cats e =
           (rw (← none) ((bytes_eq-Decides word (codes "-")).0 is), omega arith)
       | inr not ↦
           let read = wholly (rising 16 97 word) cats (rw not at e) in
-          let spelled : letters 16 97 cats ++ [] ≡ word = subst (λ (x : ℕ × List ℕ). letters 16 97 x.0 ++ x.1 ≡ word) read.0 (letters-rising 16 97 word) in
-          let first : (rising 16 97 word).0 ≡ cats = ap (λ (x : ℕ × List ℕ). x.0) read.0 in
-          (sym spelled ∙ append-nil (letters 16 97 cats) ∙ sym (word_of cats read.1), omega (arith, rising_below 16 97 word, first))
+          let spelled : letters 16 97 cats ++ [] ≡ word =
+          subst (λ (x : ℕ × List ℕ). letters 16 97 x.0 ++ x.1 ≡ word) read.0
+          (letters-rising 16 97 word) in
+          let first : (rising 16 97 word).0 ≡ cats = ap (λ (x : ℕ × List ℕ). x.0) read.0 in (
+            sym spelled ∙ append-nil (letters 16 97 cats)
+                ∙ sym (word_of cats read.1),
+            omega (arith, rising_below 16 97 word, first),
+          )
     ]
 
 above_ink : (word : List ℕ) → AllByRecursion (λ c. 97 ≤ c) word → IsInk word
@@ -129,5 +154,6 @@ pub cats_ink : (cats : ℕ) → IsInk (cats_word cats)
 cats_ink cats =
     elim (cases_Bool (eqb cats 0)) [
       | inl is ↦ rw is refl
-      | inr not ↦ rw not (above_ink (letters 16 97 cats) (letters_above 16 97 97 cats (omega arith)))
+      | inr not ↦ rw not (above_ink (letters 16 97 cats)
+          (letters_above 16 97 97 cats (omega arith)))
     ]

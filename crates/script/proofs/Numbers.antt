@@ -14,23 +14,29 @@ use Rattle.script.proofs.Tools.{guard_some, both}
 model : IsNumeralModel (λ digits. all_ascii_digits digits ≡ true) (value_on 0)
 model = numerals_by_fold _ (search rules) value_on (search rules)
 
-plain_word : (word : List ℕ) → is_unpadded word ≡ true → (0 < length word) × (get_or word 0 0 ≡ 48 → length word ≡ 1)
+plain_word : (word : List ℕ) → is_unpadded word ≡ true → (0 < length word)
+    × (get_or word 0 0 ≡ 48 → length word ≡ 1)
 plain_word [] h = absurd cc
 plain_word (c ∷ []) h = (omega arith, λ _. refl)
 plain_word (c ∷ d ∷ more) h = (omega arith, λ e. absurd (grind (arith, nat_tests)))
 
-word_plain : (word : List ℕ) → 0 < length word → (get_or word 0 0 ≡ 48 → length word ≡ 1) → is_unpadded word ≡ true
+word_plain : (word : List ℕ) → 0 < length word → (get_or word 0 0 ≡ 48 → length word ≡ 1)
+    → is_unpadded word ≡ true
 word_plain [] h e = absurd (omega arith)
 word_plain (c ∷ []) h e = refl
 word_plain (c ∷ d ∷ more) h e = grind (arith, nat_tests)
 
 -- a word that is read as a number is the number's one spelling
-pub number_takes : (low high : ℕ) (word : List ℕ) (n : ℕ) → high < 2 ^ 64 → number_read low high word ≡ Some n → (word ≡ decimal n) × (low ≤ n) × (n ≤ high)
+pub number_takes : (low high : ℕ) (word : List ℕ) (n : ℕ) → high < 2 ^ 64
+    → number_read low high word ≡ Some n → (word ≡ decimal n) × (low ≤ n) × (n ≤ high)
 unfolding number_read
 number_takes low high word n bound e =
-    let g = guard_some (is_unpadded word && all_ascii_digits word && leb low (value_on 0 word) && leb (value_on 0 word) high) (value_on 0 word) n e in
-    let most = both (is_unpadded word && all_ascii_digits word && leb low (value_on 0 word)) (leb (value_on 0 word) high) g.0 in
-    let least = both (is_unpadded word && all_ascii_digits word) (leb low (value_on 0 word)) most.0 in
+    let g = guard_some (is_unpadded word && all_ascii_digits word && leb low (value_on 0 word)
+    && leb (value_on 0 word) high) (value_on 0 word) n e in
+    let most = both (is_unpadded word && all_ascii_digits word && leb low (value_on 0 word))
+    (leb (value_on 0 word) high) g.0 in
+    let least = both (is_unpadded word && all_ascii_digits word) (leb low (value_on 0 word))
+    most.0 in
     let digits = both (is_unpadded word) (all_ascii_digits word) least.0 in
     let plain = plain_word word digits.0 in
     let le : value_on 0 word ≤ high = grind (arith, nat_tests) in
@@ -44,11 +50,18 @@ decimal_plain (suc n) lt =
     let f = first_decimal (suc n) (omega arith) lt in
     word_plain (decimal (suc n)) (decimal_nonempty (suc n) lt) (λ e. absurd (omega arith))
 
-pub number_again : (low high n : ℕ) → high < 2 ^ 64 → low ≤ n → n ≤ high → number_read low high (decimal n) ≡ Some n
+pub number_again : (low high n : ℕ) → high < 2 ^ 64 → low ≤ n → n ≤ high
+    → number_read low high (decimal n) ≡ Some n
 unfolding number_read
 number_again low high n bound ge le =
     let lt : n < 2 ^ 64 = omega arith in
-    rw (decimal_plain n lt, digits_decimal model n lt, digits_value-decimal model n lt, le-leb low n ge, le-leb n high le) refl
+    rw (
+      decimal_plain n lt,
+      digits_decimal model n lt,
+      digits_value-decimal model n lt,
+      le-leb low n ge,
+      le-leb n high le,
+    ) refl
 
 digits_all : (word : List ℕ) → all_ascii_digits word ≡ true → list_all is_ascii_digit word ≡ true
 digits_all [] e = refl

@@ -5,15 +5,18 @@ use Rattle.std.proofs.lemmas.Bool.Decides.{nat_tests}
 use Rattle.std.proofs.lemmas.List.Elements.{All-from_recursion}
 use Rattle.script.specs.Facts.{◌>>=◌}
 
-pub bind_some : {A B : Type 0} (o : Option A) (f : A → Option B) (y : B) → (o >>= f) ≡ Some y → (x : A) × (o ≡ Some x) × (f x ≡ Some y)
+pub bind_some : {A B : Type 0} (o : Option A) (f : A → Option B) (y : B) → (o >>= f) ≡ Some y
+    → (x : A) × (o ≡ Some x) × (f x ≡ Some y)
 bind_some (Some x) f y e = (x, refl, e)
 bind_some None f y e = absurd cc
 
-pub guard_some : {A : Type 0} (b : Bool) (x y : A) → cond b (Some x) None ≡ Some y → (b ≡ true) × (x ≡ y)
+pub guard_some : {A : Type 0} (b : Bool) (x y : A) → cond b (Some x) None ≡ Some y → (b ≡ true)
+    × (x ≡ y)
 guard_some true x y e = (refl, cc)
 guard_some false x y e = absurd cc
 
-pub guard_other : {A : Type 0} (b : Bool) (o : Option A) (y : A) → cond b o None ≡ Some y → (b ≡ true) × (o ≡ Some y)
+pub guard_other : {A : Type 0} (b : Bool) (o : Option A) (y : A) → cond b o None ≡ Some y
+    → (b ≡ true) × (o ≡ Some y)
 guard_other true o y e = (refl, e)
 guard_other false o y e = absurd cc
 
@@ -24,7 +27,8 @@ both false b h = absurd cc
 pub some_same : {A : Type 0} (x y : A) → Some x ≡ Some y → x ≡ y
 some_same x y e = cc
 
-pub weaker : (p q : ℕ → Bool) → ((c : ℕ) → p c ≡ true → q c ≡ true) → (word : List ℕ) → list_all p word ≡ true → list_all q word ≡ true
+pub weaker : (p q : ℕ → Bool) → ((c : ℕ) → p c ≡ true → q c ≡ true) → (word : List ℕ)
+    → list_all p word ≡ true → list_all q word ≡ true
 weaker p q h [] e = refl
 weaker p q h (c ∷ word) e =
     let b = both (p c) (list_all p word) e in
@@ -42,14 +46,16 @@ IsInk word = list_all is_ink word ≡ true
 abbrev pub Lacks : ℕ → List ℕ → Type 0
 Lacks mark word = All (λ c. eqb c mark ≡ false) word
 
-lacking : (p : ℕ → Bool) (mark : ℕ) → ((c : ℕ) → p c ≡ true → eqb c mark ≡ false) → (word : List ℕ) → list_all p word ≡ true → AllByRecursion (λ c. eqb c mark ≡ false) word
+lacking : (p : ℕ → Bool) (mark : ℕ) → ((c : ℕ) → p c ≡ true → eqb c mark ≡ false) → (word : List ℕ)
+    → list_all p word ≡ true → AllByRecursion (λ c. eqb c mark ≡ false) word
 lacking p mark h [] e = tt
 lacking p mark h (c ∷ word) e =
     let b = both (p c) (list_all p word) e in
     (h c b.0, lacking p mark h word b.1)
 
 -- a word whose characters pass a test that the mark fails
-pub lacks : (p : ℕ → Bool) (mark : ℕ) → ((c : ℕ) → p c ≡ true → eqb c mark ≡ false) → (word : List ℕ) → list_all p word ≡ true → Lacks mark word
+pub lacks : (p : ℕ → Bool) (mark : ℕ) → ((c : ℕ) → p c ≡ true → eqb c mark ≡ false)
+    → (word : List ℕ) → list_all p word ≡ true → Lacks mark word
 lacks p mark h word e = All-from_recursion (λ c. eqb c mark ≡ false) word (lacking p mark h word e)
 
 pub ink_lacks : (mark : ℕ) → mark ≤ 32 → (word : List ℕ) → IsInk word → Lacks mark word

@@ -25,16 +25,24 @@ None >>= f = None
 -- the kinds of lines; all event lines are of one kind
 pub data Kind : Type 0 where
   version_line : Kind
+  seal_line : Kind
   level_line : Kind
+  key_line : Kind
+  guard_line : Kind
   host_line : Kind
+  store_line : Kind
   begin_line : Kind
   event_line : Kind
   end_line : Kind
 
 abbrev pub kind_of : Line → Kind
 kind_of line.Version = version_line
+kind_of line.Seal = seal_line
 kind_of (line.Level name level) = level_line
+kind_of (line.Key level pair) = key_line
+kind_of (line.Guard pair) = guard_line
 kind_of (line.Host address level) = host_line
+kind_of (line.Store reader action) = store_line
 kind_of line.Begin = begin_line
 kind_of (line.Event words) = event_line
 kind_of line.End = end_line
@@ -62,7 +70,8 @@ stream_named roster words = do
   to ← party_named roster words.to
   Some (record { from = from; to = to })
 
--- an event by the words of its line, where the roster has the levels that it names
+-- an event by the words of its line, where the roster has the levels that it names; the forms that
+-- are not read yet stand for none
 abbrev pub event_named : RosterView → EventWords → Option Event
 event_named roster (line.Send from to message) = do
   party ← party_named roster to
@@ -75,6 +84,7 @@ event_named roster (line.Carry stream message at) = do
   parties ← stream_named roster stream
   party ← party_named roster at
   Some (Carry parties message party)
+event_named roster _ = None
 
 -- ---- what each line adds
 
@@ -125,6 +135,6 @@ facts lines = record {
   ended = list_any is_end lines;
 }
 
--- the script that lines say
+-- the script that lines say; no line that is read adds a row to the plan
 abbrev pub script_said : List Line → ScriptView
-script_said lines = record { roster = roster_of lines; events = events_of lines }
+script_said lines = record { roster = roster_of lines; rows = []; events = events_of lines }

@@ -18,7 +18,8 @@ use Rattle.script.specs.Facts.{Kind, version_line, level_line, host_line, begin_
 
 -- ---- the reason against a line
 
--- whether a line of a kind may stand behind one of another kind, or first
+-- whether a line of a kind may stand behind one of another kind, or first; the kinds that are not
+-- read yet stand nowhere
 abbrev pub may_follow : Option Kind → Kind → Bool
 may_follow None version_line = true
 may_follow (Some version_line) level_line = true

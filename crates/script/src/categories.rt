@@ -2,7 +2,8 @@ ghost use Rattle.std.specs.Prelude.{◌≡◌, ◌+◌, ◌≤◌, ◌<◌, ◌^
 ghost use Rattle.script.specs.inside.Readers.{rising, cats_read};
 
 /// The categories of the letters in front of a word, as bits from the lowest, and what stands
-/// behind them. At most `count` letters are read, the first of them `letter` or a later one, rising.
+/// behind them. At most `count` letters are read, the first of them `letter` or a later one,
+/// rising.
 #[tactic(auto, unfolding(crate::specs::inside::Readers::rising))]
 fn rising(count: u8, letter: u8, word: &[u8]) -> (u16, &[u8])
     requires few { count ≤ 16 }

@@ -13,8 +13,10 @@ mod refusal;
 mod stage;
 mod words;
 mod write;
+mod write_event;
+mod write_word;
 
-pub use events::{Body, Event, Script, ScriptStop, Stream};
+pub use events::{Body, Edits, Event, Script, ScriptStop, Stream};
 pub use laws::{
     clean_texts_are_their_own, each_text_has_one_outcome, events_stand_at_their_lines,
     scripts_read_again,

@@ -1,5 +1,5 @@
 ghost use Rattle.std.specs.Prelude.{◌≡◌, IfSome};
-ghost use Rattle.events.specs.Scripts.{HasPieceNumber};
+ghost use Rattle.events.specs.Scripts.{HasNumbers};
 
 use events::{Body, Event, Stream};
 use levels::{Level, LevelName, Party, Roster};
@@ -90,7 +90,7 @@ impl EventWords {
     pub fn event(self, roster: &Roster) -> Option<Event>
         requires { HasEventRanges (words_meant self) }
         ensures event { result ≡ event_named roster.now (words_meant self) }
-        ensures piece { IfSome result HasPieceNumber }
+        ensures piece { IfSome result HasNumbers }
     {
         match self {
             EventWords::Send { from, to, message } => {

@@ -13,7 +13,7 @@ fn is_unpadded(word: &[u8]) -> bool
 }
 
 /// A decimal number without leading zeros, from `low` to `high`.
-#[tactic(auto, unfolding(crate::specs::inside::Readers::number_read), using(crate::proofs::Digits::value_on_le))]
+#[tactic(auto, unfolding(crate::specs::inside::Readers::number_read))]
 pub fn number(word: &[u8], low: u64, high: u64) -> Option<u64>
     requires { high < 2 ^ 56 }
     ensures value { result ≡ number_read low high word.now }

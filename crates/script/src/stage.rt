@@ -6,7 +6,7 @@ ghost use Rattle.script.specs.Reasons.{may_follow};
 ghost use Rattle.script.specs.Lines as line;
 ghost use Rattle.script.specs.Ranges.{IsAddress, HasEventRanges, HasRanges};
 ghost use Rattle.script.specs.inside.Readers.{words_meant, meant};
-ghost use Rattle.script.specs.inside.Stages.{seen, HasLevel, Takes, TakesBehind, Steps};
+ghost use Rattle.script.specs.inside.Stages.{seen, IsSound, Takes, TakesBehind, Steps};
 ghost use Rattle.script.specs.inside.Stages.{facts_with, Finishes};
 
 use crate::line::{EventWords, Line};
@@ -31,7 +31,8 @@ pub enum Stage {
 /// The stage behind a further level line.
 #[tactic(auto, unfolding(crate::specs::Reasons::against))]
 fn add_level(mut roster: Roster, name: LevelName, level: Level) -> Result<Stage, Stop>
-    requires { level.rank ≤ 7 }
+    requires clear { roster.sealing ≡ Clear }
+    requires rank { level.rank ≤ 7 }
     ensures { TakesBehind roster [] (line.Level name level) result }
 {
     roster.add_level(name, level)?;
@@ -56,7 +57,8 @@ fn add_host(mut roster: Roster, address: u8, level: LevelName) -> Result<Stage, 
 /// The stage behind a further event line.
 #[tactic(auto, unfolding(crate::specs::Reasons::against))]
 fn add_event(mut script: Script, words: EventWords) -> Result<Stage, Stop>
-    requires { HasEventRanges (words_meant words) }
+    requires rows { script.rows ≡ [] }
+    requires ranges { HasEventRanges (words_meant words) }
     ensures { TakesBehind script.roster script.events (line.Event (words_meant words)) result }
 {
     let Some(event) = words.event(script.roster()) else {
@@ -79,7 +81,8 @@ impl Stage {
 
     #[tactic(auto, unfolding(crate::specs::Reasons::against))]
     fn take_level(self, alloc: Global, name: LevelName, level: Level) -> Result<Stage, Stop>
-        requires { level.rank ≤ 7 }
+        requires sound { IsSound self }
+        requires rank { level.rank ≤ 7 }
         ensures { Takes (seen self) (line.Level name level) result }
     {
         match self {
@@ -91,7 +94,7 @@ impl Stage {
 
     #[tactic(auto, unfolding(crate::specs::Reasons::against))]
     fn take_host(self, address: u8, level: LevelName) -> Result<Stage, Stop>
-        requires level { HasLevel self }
+        requires sound { IsSound self }
         requires address { IsAddress address }
         ensures { Takes (seen self) (line.Host address level) result }
     {
@@ -104,7 +107,7 @@ impl Stage {
 
     #[tactic(auto, unfolding(crate::specs::Reasons::against))]
     fn take_begin(self, alloc: Global) -> Result<Stage, Stop>
-        requires { HasLevel self }
+        requires { IsSound self }
         ensures { Takes (seen self) line.Begin result }
     {
         match self {
@@ -116,7 +119,8 @@ impl Stage {
 
     #[tactic(auto, unfolding(crate::specs::Reasons::against))]
     fn take_event(self, words: EventWords) -> Result<Stage, Stop>
-        requires { HasEventRanges (words_meant words) }
+        requires sound { IsSound self }
+        requires ranges { HasEventRanges (words_meant words) }
         ensures { Takes (seen self) (line.Event (words_meant words)) result }
     {
         match self {
@@ -128,6 +132,7 @@ impl Stage {
 
     #[tactic(auto, unfolding(crate::specs::Reasons::against))]
     fn take_end(self) -> Result<Stage, Stop>
+        requires { IsSound self }
         ensures { Takes (seen self) line.End result }
     {
         match self {
@@ -138,7 +143,7 @@ impl Stage {
     }
 
     fn take(self, alloc: Global, line: Line) -> Result<Stage, Stop>
-        requires level { HasLevel self }
+        requires sound { IsSound self }
         requires ranges { HasRanges (meant line) }
         ensures { Takes (seen self) (meant line) result }
     {
@@ -154,7 +159,7 @@ impl Stage {
 
     /// The stage behind one more line.
     pub fn step(self, alloc: Global, text: &[u8]) -> Result<Stage, Stop>
-        requires { HasLevel self }
+        requires { IsSound self }
         ensures { Steps (seen self) text.now result }
     {
         let line = read_line(alloc, text)?;
@@ -163,6 +168,7 @@ impl Stage {
 
     /// The script, where the text ends here.
     pub fn finish(self, tail: &[u8]) -> Result<Script, Reason>
+        requires { IsSound self }
         ensures { Finishes (seen self) tail.now result }
     {
         if !tail.is_empty() {

@@ -1,7 +1,15 @@
-use crate::{Event, Reason, Refusal, ScriptRefused, read_script, write_script};
+ghost use Rattle.std.specs.Prelude.{◌≤◌};
+
+use crate::{
+    Body, Edits, Event, Reason, Refusal, Script, ScriptRefused, Stream, read_script, write_script,
+};
+use file_calls::{Call, Content, Name};
+use levels::{Level, LevelName, Partition, Party, Roster, Sealing};
+use seal_core::KeyPair;
 use std::alloc::{AllocError, Global};
 use std::process::Abort;
 use std::test::Fail;
+use untrusted_store::{PlanRow, StoreAction};
 
 const HEAD: &str =
     "dss 1\nlevel U 0 -\nlevel S 2 a\nhost 1 U\nhost 2 U\nhost 5 S\nhost 6 S\nbegin\n";
@@ -199,18 +207,218 @@ fn refuses_too_many_events_and_bytes(rt: HostRuntime) -> Result<(), Fail> {
 
 #[test]
 fn writes_what_it_read(rt: HostRuntime) -> Result<(), Fail> {
+    const DIGITS: &str = "0123456789abcdef0123456789abcdef0123456789abcdef0123456789abcdef";
     for body in [
-        "",
-        "send 1 2 6869\ndeliver 1>2#0.0 to 2\n",
-        "send 1 2 -\ncarry 1>2#0 to 2\n",
-        "deliver 6>5#4294967295.63 to 1\n",
-        "send 5 6 0123456789abcdef0123456789abcdef0123456789abcdef0123456789abcdef0123456789abcdef0123456789abcdef0123456789abcdef0123456789abcdef0123456789abcdef0123456789abcdef0123456789abcdef00\n",
+        ["", "", ""],
+        ["send 1 2 6869\n", "deliver 1>2#0.0 to 2\n", ""],
+        ["send 1 2 -\n", "carry 1>2#0 to 2\n", ""],
+        ["deliver 6>5#4294967295.63 to 1\n", "", ""],
+        ["send 5 6 ", DIGITS, "00\n"],
     ] {
-        let text = joined(rt.alloc(), &[HEAD, body, "end\n"])?;
+        let [first, second, third] = body;
+        let text = joined(rt.alloc(), &[HEAD, first, second, third, "end\n"])?;
         let script = read_script(rt.alloc(), &text)?;
         let again = write_script(rt.alloc(), &script)?;
         assert_eq!(rt; again.as_slice(), text.as_slice());
     }
+    Ok(())
+}
+
+fn pair(main: u8, check: u8) -> KeyPair {
+    KeyPair {
+        main: [main; 8],
+        check: [check; 8],
+    }
+}
+
+fn add_level(roster: &mut Roster, name: &[u8], rank: u8, cats: u16) -> Result<(), Fail>
+    requires { rank ≤ 7 }
+{
+    let name = LevelName::new(name).ok_or("no name")?;
+    roster.add_level(name, Level { rank, cats })?;
+    Ok(())
+}
+
+fn add_host(roster: &mut Roster, address: u8, level: &[u8]) -> Result<(), Fail>
+    requires { (1 ≤ address) × (address ≤ 250) }
+{
+    let name = LevelName::new(level).ok_or("no name")?;
+    let partition = roster.find_level(&name).ok_or("no such level")?;
+    Ok(roster.add_host(address, partition)?)
+}
+
+fn add_keys(roster: &mut Roster, keys: KeyPair) -> Result<(), Fail> {
+    let Sealing::Des = roster.sealing() else {
+        return Err("clear sealing")?;
+    };
+    if roster.key_count() >= roster.level_count() {
+        return Err("all levels have keys")?;
+    }
+    Ok(roster.add_keys(keys)?)
+}
+
+fn set_guard(roster: &mut Roster, keys: KeyPair) -> Result<(), Fail> {
+    let Sealing::Des = roster.sealing() else {
+        return Err("clear sealing")?;
+    };
+    if roster.level_count() == 0 || roster.key_count() != roster.level_count() {
+        return Err("a level has no keys")?;
+    }
+    if roster.is_complete() {
+        return Err("the guarantor has keys")?;
+    }
+    Ok(roster.set_guard(keys)?)
+}
+
+/// A script of DES sealing with two levels and two hosts, and a plan with each kind of row.
+fn planned_script(alloc: Global) -> Result<Script, Fail> {
+    let mut roster = Roster::new(alloc, Sealing::Des);
+    add_level(&mut roster, b"U", 0, 0)?;
+    add_level(&mut roster, b"S", 2, 3)?;
+    add_keys(&mut roster, pair(0x20, 0x30))?;
+    add_keys(&mut roster, pair(0x60, 0x70))?;
+    set_guard(&mut roster, pair(0x80, 0x90))?;
+    add_host(&mut roster, 1, b"U")?;
+    add_host(&mut roster, 5, b"S")?;
+    if !roster.is_complete() {
+        return Err("keys are missing")?;
+    }
+    let mut script = Script::start(alloc, roster);
+    for (reader, action) in [
+        (0, StoreAction::Honest),
+        (
+            1,
+            StoreAction::Of {
+                level: 0,
+                version: 72_057_594_037_927_935,
+            },
+        ),
+        (
+            1,
+            StoreAction::Flip {
+                offset: 4_294_967_295,
+                xor: 10,
+            },
+        ),
+        (1, StoreAction::Gone),
+    ] {
+        let reader = Partition(reader);
+        script.add_plan(PlanRow { reader, action })?;
+    }
+    Ok(script)
+}
+
+fn file_name(alloc: Global, text: &[u8]) -> Result<Name, Fail> {
+    Ok(Name::new(alloc, text)?.ok_or("no file name")?)
+}
+
+fn content(alloc: Global, bytes: &[u8]) -> Result<Content, Fail> {
+    Ok(Content::new(alloc, bytes)?.ok_or("too long")?)
+}
+
+/// Adds a call of each form.
+fn add_calls(alloc: Global, script: &mut Script) -> Result<(), Fail> {
+    let calls = [
+        Call::Put {
+            name: file_name(alloc, b"note")?,
+            content: content(alloc, b"ab")?,
+        },
+        Call::Get {
+            level: 0,
+            name: file_name(alloc, b"note")?,
+        },
+        Call::List { level: 1 },
+        Call::Remove {
+            name: file_name(alloc, b"a.txt")?,
+        },
+        Call::Append {
+            name: file_name(alloc, b"note")?,
+            content: content(alloc, b"")?,
+        },
+        Call::GetBlock {
+            level: 0,
+            name: file_name(alloc, b"0-_.z")?,
+            block: 63,
+        },
+    ];
+    for call in calls {
+        let from = 5;
+        script.add_event(Event::Ask { from, call })?;
+    }
+    Ok(())
+}
+
+#[test]
+fn writes_lines_of_every_form(rt: HostRuntime) -> Result<(), Fail> {
+    let alloc = rt.alloc();
+    let mut script = planned_script(alloc)?;
+    let host = Party::Host(1);
+    let manager = Party::Manager(Partition(1));
+    script.add_event(Event::Send {
+        from: 5,
+        to: manager,
+        message: Body::new(alloc, b"hi")?,
+    })?;
+    add_calls(alloc, &mut script)?;
+    let (up, down) = (
+        Stream {
+            from: host,
+            to: manager,
+        },
+        Stream {
+            from: manager,
+            to: host,
+        },
+    );
+    script.add_event(Event::Arrive {
+        stream: up,
+        message: 0,
+        piece: 63,
+        at: manager,
+    })?;
+    script.add_event(Event::Carry {
+        stream: down,
+        message: 4_294_967_295,
+        at: host,
+    })?;
+    script.add_event(Event::Forge {
+        at: manager,
+        bytes: [0xa5; 128],
+    })?;
+    let edits = Edits::new(&[(0, 1), (40, 0xff), (127, 0x80)]).ok_or("no edits")?;
+    script.add_event(Event::Tamper {
+        stream: up,
+        message: 2,
+        piece: 0,
+        at: manager,
+        edits,
+    })?;
+    let bytes = vec![in alloc; 0xa5; 128]?;
+    let digits = hex::encode(alloc, &bytes)?;
+    let expected = joined(
+        alloc,
+        &[
+            "dss 1\nseal des\nlevel U 0 -\nlevel S 2 ab\n",
+            "key U 2020202020202020 3030303030303030\nkey S 6060606060606060 7070707070707070\n",
+            "guard 8080808080808080 9090909090909090\nhost 1 U\nhost 5 S\nstore U true\n",
+            "store S of U 72057594037927935\nstore S flip 4294967295 0a\nstore S gone\nbegin\n",
+            "send 5 S 6869\nput 5 note 6162\nget 5 U note\nlist 5 S\nremove 5 a.txt\n",
+            "append 5 note -\nblock 5 U 0-_.z 63\ndeliver 1>S#0.63 to S\n",
+            "carry S>1#4294967295 to 1\nforge S ",
+            digits.as_str(),
+            "\ntamper 1>S#2.0 to S 0^01 40^ff 127^80\nend\n",
+        ],
+    )?;
+    let text = write_script(alloc, &script)?;
+    assert_eq!(rt; text.as_slice(), expected.as_slice());
+    assert_eq!(rt; script.line_of(0), 15);
+    assert_eq!(rt;
+        refusal_of(alloc, &text)?,
+        Some(Refusal {
+            line: 2,
+            reason: Reason::Form
+        })
+    );
     Ok(())
 }
 

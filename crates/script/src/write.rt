@@ -1,87 +1,32 @@
-ghost use Rattle.std.specs.Prelude.{◌≡◌, ◌++◌, ◌∷◌, ◌<◌, ◌≤◌, codes, OnOk, IfOk, true, [], map, length};
-ghost use Rattle.std.specs.List.{flat_map, AllByRecursion};
-ghost use Rattle.levels.specs.Kept.{IsRoster};
-ghost use Rattle.levels.specs.declared.rows.HostRow.{HostRow};
-ghost use Rattle.levels.specs.declared.rows.LevelRow.{LevelRow};
-ghost use Rattle.events.specs.Scripts.{is_known, is_named};
-ghost use Rattle.script.specs.Spelling.{letters, cats_word, party_text, stream_text, numbers_text};
-ghost use Rattle.script.specs.Spelling.{ended_text};
-ghost use Rattle.script.specs.Text.{party_said, stream_said, line_of_level, line_of_host};
-ghost use Rattle.script.specs.Text.{line_of_event, text_of};
+ghost use Rattle.std.specs.Prelude.{◌≡◌, ◌++◌, ◌∷◌, ◌<◌, ◌≤◌, OnOk, IfOk, IsSome, true, map, length};
+ghost use Rattle.std.specs.List.{flat_map, zip, AllByRecursion};
+ghost use Rattle.levels.specs.Kept.{IsRoster, IsComplete};
+ghost use Rattle.levels.specs.Keys.{listed};
+ghost use Rattle.levels.specs.declared.level.Sealing.TheVariants.{Des};
+ghost use Rattle.events.specs.Scripts.{is_named, is_action_named, is_row_named};
+ghost use Rattle.events.specs.Words.{hex_word};
+ghost use Rattle.script.specs.Lines as line;
+ghost use Rattle.script.specs.Spelling.{ended_text, action_words};
+ghost use Rattle.script.specs.Text.{name_or_none, action_said, lines_of_sealing, line_of_level};
+ghost use Rattle.script.specs.Text.{line_of_key, line_of_guard, lines_of_keys, line_of_host};
+ghost use Rattle.script.specs.Text.{line_of_row, line_of_event, text_of};
 
-use events::{Event, Script, Stream, push_hex, push_number};
-use levels::{Level, LevelName, Partition, Party, Roster};
+use crate::write_event::write_event;
+use crate::write_word::{write_byte, write_cats, write_name, write_wide};
+use events::{Event, Script, push_hex, push_number};
+use levels::{Level, LevelName, Partition, Roster, Sealing};
+use seal_core::KeyPair;
 use std::alloc::{AllocError, Global};
+use untrusted_store::{PlanRow, StoreAction};
 
-/// Writes the number of a message and that of its piece.
-fn write_numbers(
-    alloc: Global,
-    text: &mut Vec<u8>,
-    message: u32,
-    piece: u8,
-) -> Result<(), AllocError>
-    ensures { OnOk result (text.new.items ≡ text.old.items ++ numbers_text (message, piece)) }
+fn write_sealing(text: &mut Vec<u8>, sealing: Sealing) -> Result<(), AllocError>
+    ensures { OnOk result (text.new.items ≡
+        text.old.items ++ flat_map ended_text (lines_of_sealing sealing)) }
 {
-    push_number(alloc, text, message)?;
-    text.push(b'.')?;
-    push_number(alloc, text, u32::from(piece))
-}
-
-fn write_letters(text: &mut Vec<u8>, cats: u16) -> Result<(), AllocError>
-    ensures { OnOk result (text.new.items ≡ text.old.items ++ letters 16 97 cats) }
-{
-    let mut left = cats;
-    for i in 0..16u8 {
-        if left % 2 == 1 {
-            text.push(b'a' + i)?;
-        }
-        left /= 2;
+    match sealing {
+        Sealing::Clear => Ok(()),
+        Sealing::Des => text.extend_from_slice(b"seal des\n".as_slice()),
     }
-    Ok(())
-}
-
-/// Writes a set of categories.
-fn write_cats(text: &mut Vec<u8>, cats: u16) -> Result<(), AllocError>
-    ensures { OnOk result (text.new.items ≡ text.old.items ++ cats_word cats) }
-{
-    if cats == 0 {
-        text.extend_from_slice(b"-".as_slice())
-    } else {
-        write_letters(text, cats)
-    }
-}
-
-fn write_party(
-    alloc: Global,
-    text: &mut Vec<u8>,
-    roster: &Roster,
-    party: Party,
-) -> Result<(), AllocError>
-    requires { is_known roster.now party ≡ true }
-    ensures { OnOk result (text.new.items ≡ text.old.items ++ party_text (party_said roster.now party)) }
-{
-    match party {
-        Party::Host(address) => push_number(alloc, text, u32::from(address)),
-        Party::Manager(partition) => {
-            let name = roster.name_at(partition);
-            text.extend_from_slice(name.bytes())
-        }
-    }
-}
-
-fn write_stream(
-    alloc: Global,
-    text: &mut Vec<u8>,
-    roster: &Roster,
-    stream: Stream,
-) -> Result<(), AllocError>
-    requires from { is_known roster.now stream.from ≡ true }
-    requires to { is_known roster.now stream.to ≡ true }
-    ensures { OnOk result (text.new.items ≡ text.old.items ++ stream_text (stream_said roster.now stream)) }
-{
-    write_party(alloc, text, roster, stream.from)?;
-    text.push(b'>')?;
-    write_party(alloc, text, roster, stream.to)
 }
 
 /// Writes the line of a level.
@@ -91,8 +36,8 @@ fn write_level(
     name: &LevelName,
     level: Level,
 ) -> Result<(), AllocError>
-    ensures { OnOk result (text.new.items ≡
-        text.old.items ++ ended_text (line_of_level (record { name = name.now; level = level }))) }
+    ensures { OnOk result
+        (text.new.items ≡ text.old.items ++ ended_text (line.Level name.now level)) }
 {
     text.extend_from_slice(b"level ".as_slice())?;
     text.extend_from_slice(name.bytes())?;
@@ -100,6 +45,44 @@ fn write_level(
     push_number(alloc, text, u32::from(level.rank))?;
     text.push(b' ')?;
     write_cats(text, level.cats)?;
+    text.push(b'\n')?;
+    Ok(())
+}
+
+/// Writes both keys.
+fn write_pair(alloc: Global, text: &mut Vec<u8>, pair: &KeyPair) -> Result<(), AllocError>
+    ensures { OnOk result (text.new.items ≡
+        text.old.items ++ hex_word pair.now.main ++ 32 ∷ hex_word pair.now.check) }
+{
+    push_hex(alloc, text, &pair.main)?;
+    text.push(b' ')?;
+    push_hex(alloc, text, &pair.check)
+}
+
+/// Writes the line of a level's key pair.
+fn write_key(
+    alloc: Global,
+    text: &mut Vec<u8>,
+    name: &LevelName,
+    pair: &KeyPair,
+) -> Result<(), AllocError>
+    ensures { OnOk result
+        (text.new.items ≡ text.old.items ++ ended_text (line.Key name.now pair.now)) }
+{
+    text.extend_from_slice(b"key ".as_slice())?;
+    text.extend_from_slice(name.bytes())?;
+    text.push(b' ')?;
+    write_pair(alloc, text, pair)?;
+    text.push(b'\n')?;
+    Ok(())
+}
+
+/// Writes the line of the guarantor's key pair.
+fn write_guard(alloc: Global, text: &mut Vec<u8>, pair: &KeyPair) -> Result<(), AllocError>
+    ensures { OnOk result (text.new.items ≡ text.old.items ++ ended_text (line.Guard pair.now)) }
+{
+    text.extend_from_slice(b"guard ".as_slice())?;
+    write_pair(alloc, text, pair)?;
     text.push(b'\n')?;
     Ok(())
 }
@@ -113,127 +96,62 @@ fn write_host(
     partition: Partition,
 ) -> Result<(), AllocError>
     requires { partition.0 < length roster.now.levels }
-    ensures { OnOk result (text.new.items ≡
-        text.old.items ++ ended_text (line_of_host roster.now (record { address = address; partition = partition }))) }
+    ensures { OnOk result (text.new.items ≡ text.old.items ++
+        ended_text (line.Host address (name_or_none roster.now partition.0))) }
 {
     text.extend_from_slice(b"host ".as_slice())?;
     push_number(alloc, text, u32::from(address))?;
     text.push(b' ')?;
-    let name = roster.name_at(partition);
-    text.extend_from_slice(name.bytes())?;
+    write_name(text, roster, partition.0)?;
     text.push(b'\n')?;
     Ok(())
 }
 
-fn write_send(
+/// Writes an action of the store, with a space in front of each word.
+fn write_action(
     alloc: Global,
     text: &mut Vec<u8>,
     roster: &Roster,
-    from: u8,
-    to: Party,
-    message: &[u8],
+    action: StoreAction,
 ) -> Result<(), AllocError>
-    requires { is_known roster.now to ≡ true }
-    ensures { OnOk result (text.new.items ≡
-        text.old.items ++ ended_text (line_of_event roster.now (Event.Send from to message.now))) }
+    requires { is_action_named roster.now action ≡ true }
+    ensures { OnOk result (text.new.items ≡ text.old.items ++
+        flat_map (λ word. 32 ∷ word) (action_words (action_said roster.now action))) }
 {
-    text.extend_from_slice(b"send ".as_slice())?;
-    push_number(alloc, text, u32::from(from))?;
-    text.push(b' ')?;
-    write_party(alloc, text, roster, to)?;
-    text.push(b' ')?;
-    push_hex(alloc, text, message)?;
-    text.push(b'\n')?;
-    Ok(())
-}
-
-/// Writes where something arrives, and ends the line.
-fn write_end(
-    alloc: Global,
-    text: &mut Vec<u8>,
-    roster: &Roster,
-    at: Party,
-) -> Result<(), AllocError>
-    requires { is_known roster.now at ≡ true }
-    ensures { OnOk result (text.new.items ≡
-        text.old.items ++ codes " to " ++ party_text (party_said roster.now at) ++ 10 ∷ []) }
-{
-    text.extend_from_slice(b" to ".as_slice())?;
-    write_party(alloc, text, roster, at)?;
-    text.push(b'\n')?;
-    Ok(())
-}
-
-fn write_deliver(
-    alloc: Global,
-    text: &mut Vec<u8>,
-    roster: &Roster,
-    stream: Stream,
-    message: u32,
-    piece: u8,
-    at: Party,
-) -> Result<(), AllocError>
-    requires from { is_known roster.now stream.from ≡ true }
-    requires to { is_known roster.now stream.to ≡ true }
-    requires at { is_known roster.now at ≡ true }
-    ensures { OnOk result (text.new.items ≡
-        text.old.items ++ ended_text (line_of_event roster.now (Event.Arrive stream message piece at))) }
-{
-    text.extend_from_slice(b"deliver ".as_slice())?;
-    write_stream(alloc, text, roster, stream)?;
-    text.push(b'#')?;
-    write_numbers(alloc, text, message, piece)?;
-    write_end(alloc, text, roster, at)
-}
-
-fn write_carry(
-    alloc: Global,
-    text: &mut Vec<u8>,
-    roster: &Roster,
-    stream: Stream,
-    message: u32,
-    at: Party,
-) -> Result<(), AllocError>
-    requires from { is_known roster.now stream.from ≡ true }
-    requires to { is_known roster.now stream.to ≡ true }
-    requires at { is_known roster.now at ≡ true }
-    ensures { OnOk result (text.new.items ≡
-        text.old.items ++ ended_text (line_of_event roster.now (Event.Carry stream message at))) }
-{
-    text.extend_from_slice(b"carry ".as_slice())?;
-    write_stream(alloc, text, roster, stream)?;
-    text.push(b'#')?;
-    push_number(alloc, text, message)?;
-    write_end(alloc, text, roster, at)
-}
-
-/// Writes the line of an event.
-fn write_event(
-    alloc: Global,
-    text: &mut Vec<u8>,
-    roster: &Roster,
-    event: &Event,
-) -> Result<(), AllocError>
-    requires { is_named roster.now event.now ≡ true }
-    ensures { OnOk result (text.new.items ≡
-        text.old.items ++ ended_text (line_of_event roster.now event.now)) }
-{
-    match event {
-        Event::Send { from, to, message } => {
-            write_send(alloc, text, roster, *from, *to, message.bytes())
+    match action {
+        StoreAction::Honest => text.extend_from_slice(b" true".as_slice()),
+        StoreAction::Of { level, version } => {
+            text.extend_from_slice(b" of ".as_slice())?;
+            write_name(text, roster, level)?;
+            text.push(b' ')?;
+            write_wide(alloc, text, version)
         }
-        Event::Arrive {
-            stream,
-            message,
-            piece,
-            at,
-        } => write_deliver(alloc, text, roster, *stream, *message, *piece, *at),
-        Event::Carry {
-            stream,
-            message,
-            at,
-        } => write_carry(alloc, text, roster, *stream, *message, *at),
+        StoreAction::Flip { offset, xor } => {
+            text.extend_from_slice(b" flip ".as_slice())?;
+            push_number(alloc, text, offset)?;
+            text.push(b' ')?;
+            write_byte(alloc, text, xor)
+        }
+        StoreAction::Gone => text.extend_from_slice(b" gone".as_slice()),
     }
+}
+
+/// Writes the line of a row of the plan.
+fn write_row(
+    alloc: Global,
+    text: &mut Vec<u8>,
+    roster: &Roster,
+    row: PlanRow,
+) -> Result<(), AllocError>
+    requires { is_row_named roster.now row ≡ true }
+    ensures { OnOk result
+        (text.new.items ≡ text.old.items ++ ended_text (line_of_row roster.now row)) }
+{
+    text.extend_from_slice(b"store ".as_slice())?;
+    write_name(text, roster, row.reader.0)?;
+    write_action(alloc, text, roster, row.action)?;
+    text.push(b'\n')?;
+    Ok(())
 }
 
 fn write_levels(alloc: Global, text: &mut Vec<u8>, roster: &Roster) -> Result<(), AllocError>
@@ -247,6 +165,36 @@ fn write_levels(alloc: Global, text: &mut Vec<u8>, roster: &Roster) -> Result<()
     Ok(())
 }
 
+/// Writes the lines of the levels' key pairs.
+fn write_pairs(alloc: Global, text: &mut Vec<u8>, roster: &Roster) -> Result<(), AllocError>
+    requires des { roster.now.sealing ≡ Des }
+    requires roster { IsRoster roster.now }
+    ensures { OnOk result (text.new.items ≡ text.old.items ++
+        flat_map ended_text (map line_of_key (zip roster.now.levels roster.now.keys))) }
+{
+    for i in 0..roster.key_count() {
+        let name = roster.name_at(Partition(i));
+        write_key(alloc, text, &name, &roster.keys_at(Partition(i)))?;
+    }
+    Ok(())
+}
+
+/// Writes the lines of all key pairs that were added.
+fn write_keys(alloc: Global, text: &mut Vec<u8>, roster: &Roster) -> Result<(), AllocError>
+    requires roster { IsRoster roster.now }
+    requires complete { IsComplete roster.now }
+    ensures { OnOk result (text.new.items ≡
+        text.old.items ++ flat_map ended_text (lines_of_keys roster.now)) }
+{
+    match roster.sealing() {
+        Sealing::Clear => Ok(()),
+        Sealing::Des => {
+            write_pairs(alloc, text, roster)?;
+            write_guard(alloc, text, &roster.guard_keys())
+        }
+    }
+}
+
 fn write_hosts(alloc: Global, text: &mut Vec<u8>, roster: &Roster) -> Result<(), AllocError>
     requires { IsRoster roster.now }
     ensures { OnOk result (text.new.items ≡
@@ -255,6 +203,22 @@ fn write_hosts(alloc: Global, text: &mut Vec<u8>, roster: &Roster) -> Result<(),
     for i in 0..roster.host_count() {
         let (address, partition) = roster.host_at(i);
         write_host(alloc, text, roster, address, partition)?;
+    }
+    Ok(())
+}
+
+fn write_rows(
+    alloc: Global,
+    text: &mut Vec<u8>,
+    roster: &Roster,
+    rows: &[PlanRow],
+) -> Result<(), AllocError>
+    requires { AllByRecursion (λ row. is_row_named roster.now row ≡ true) rows.now }
+    ensures { OnOk result (text.new.items ≡
+        text.old.items ++ flat_map ended_text (map (line_of_row roster.now) rows.now)) }
+{
+    for row in rows {
+        write_row(alloc, text, roster, *row)?;
     }
     Ok(())
 }
@@ -283,8 +247,11 @@ pub fn write_script(alloc: Global, script: &Script) -> Result<Vec<u8>, AllocErro
     let mut text = Vec::new(alloc);
     let roster = script.roster();
     text.extend_from_slice(b"dss 1\n".as_slice())?;
+    write_sealing(&mut text, roster.sealing())?;
     write_levels(alloc, &mut text, roster)?;
+    write_keys(alloc, &mut text, roster)?;
     write_hosts(alloc, &mut text, roster)?;
+    write_rows(alloc, &mut text, roster, script.rows())?;
     text.extend_from_slice(b"begin\n".as_slice())?;
     write_events(alloc, &mut text, roster, script.events())?;
     text.extend_from_slice(b"end\n".as_slice())?;

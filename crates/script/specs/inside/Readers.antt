@@ -82,8 +82,8 @@ number_read low high word =
 unfoldable pub name_read : List ℕ → Option (List ℕ)
 name_read word = if is_level_name word then Some word else None
 
--- the categories of the letters in front, each of at most n letters once and rising, and what stands
--- behind them
+-- the categories of the letters in front, each of at most n letters once and rising, and what
+-- stands behind them
 unfoldable pub rising : ℕ → ℕ → List ℕ → ℕ × List ℕ
 rising zero letter word = (0, word)
 rising (suc n) letter [] = (0, [])

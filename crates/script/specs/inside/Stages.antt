@@ -7,7 +7,7 @@ use Rattle.levels.specs.declared.roster.RosterStop.{RosterStop}
 use Rattle.levels.specs.declared.roster.RosterStop.TheVariants as roster_stop
 use Rattle.events.specs.declared.script.ScriptStop.{ScriptStop}
 use Rattle.events.specs.declared.script.ScriptStop.TheVariants as script_stop
-use Rattle.script.specs.declared.refusal.Reason.TheVariants.{Form, Name, Twice, Many, End}
+use Rattle.script.specs.declared.refusal.Reason.TheVariants.{Form, Name, Twice, Many, Key, End}
 use Rattle.events.specs.declared.event.Event.{Event}
 use Rattle.events.specs.ScriptView.{ScriptView}
 use Rattle.script.specs.Lines.{Line}
@@ -60,11 +60,14 @@ seen (Begun script) = facts_with begin_line script.roster script.events false
 seen (Events script) = facts_with event_line script.roster script.events false
 seen (Ended script) = facts_with end_line script.roster script.events true
 
--- a stage past the first level has one, and its roster is of clear sealing
-abbrev pub HasLevel : Stage → Type 0
-HasLevel (Levels roster) = (0 < length roster.levels) × (roster.sealing ≡ Clear)
-HasLevel (Hosts roster) = (0 < length roster.levels) × (roster.sealing ≡ Clear)
-HasLevel _ = Unit {0}
+-- what holds of a stage: its roster has a level and is of clear sealing, its script has no plan
+abbrev pub IsSound : Stage → Type 0
+IsSound (Levels roster) = (0 < length roster.levels) × (roster.sealing ≡ Clear)
+IsSound (Hosts roster) = (0 < length roster.levels) × (roster.sealing ≡ Clear)
+IsSound (Begun script) = script.rows ≡ []
+IsSound (Events script) = script.rows ≡ []
+IsSound (Ended script) = script.rows ≡ []
+IsSound _ = Unit {0}
 
 abbrev pub with_some : {A : Type 0} → List A → Option A → List A
 with_some xs None = xs
@@ -91,7 +94,7 @@ after so_far line' = record {
 -- A line is taken where nothing is against it; else it is refused for the first reason.
 abbrev pub Takes : Facts → Line → Result Stage Stop → Type 0
 Takes so_far line' (Ok new) =
-    (against so_far line' ≡ None) × (seen new ≡ after so_far line') × HasLevel new
+    (against so_far line' ≡ None) × (seen new ≡ after so_far line') × IsSound new
 Takes so_far line' (Err (stop.Refused reason)) = against so_far line' ≡ Some reason
 Takes so_far line' (Err stop.OutOfMemory) = Unit {0}
 
@@ -105,14 +108,14 @@ TakesBehind roster events line' result =
 abbrev pub Steps : Facts → List ℕ → Result Stage Stop → Type 0
 Steps so_far text (Ok new) =
     (line' : Line) × (line_read text ≡ Some line') × (against so_far line' ≡ None)
-    × (seen new ≡ after so_far line') × HasLevel new
+    × (seen new ≡ after so_far line') × IsSound new
 Steps so_far text (Err (stop.Refused reason)) = reason_of so_far (line_read text) ≡ Some reason
 Steps so_far text (Err stop.OutOfMemory) = Unit {0}
 
 -- A script is all that was said where nothing is against the end of the text.
 abbrev pub Finishes : Facts → List ℕ → Result ScriptView Reason → Type 0
 Finishes so_far tail (Ok script) =
-    (at_end so_far.ended tail ≡ None) × (script.roster ≡ so_far.roster)
+    (at_end so_far.ended tail ≡ None) × (script.roster ≡ so_far.roster) × (script.rows ≡ [])
     × (script.events ≡ so_far.events)
 Finishes so_far tail (Err reason) = at_end so_far.ended tail ≡ Some reason
 

@@ -8,6 +8,7 @@ use Rattle.script.proofs.number.number.Goals as goal
 pub returns-then-next-high-clause-value : goal.returns-then-next-high-clause-value
 unfolding number_read
 returns-then-next-high-clause-value c =
-    let above = value_above c.loop-digit.n c.args.high c.args.word.now c.loop-digit.digit-index c.loop-digit-test.true (grind arith) in
+    let above = value_above c.loop-digit.n c.args.high c.args.word.now c.loop-digit.digit-index
+    c.loop-digit-test.true (grind arith) in
     let v = c.loop-digit.invariant.value in
     grind (arith, nat_tests, common_steps)

@@ -5,4 +5,5 @@ use Rattle.script.specs.inside.Readers.{meant}
 use Rattle.script.proofs.reading.lone_line.Goals as goal
 
 pub returns-in-Some : goal.returns-in-Some
-returns-in-Some c = let n = something_behind (meant c.args.line) c.in-Some.field-0.now in grind (arith, common_steps)
+returns-in-Some c = let n = something_behind (meant c.args.line) c.in-Some.field-0.now in
+    grind (arith, common_steps)

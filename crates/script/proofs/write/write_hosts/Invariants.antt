@@ -5,4 +5,5 @@ use Rattle.script.specs.Text.{line_of_host}
 use Rattle.script.proofs.write.write_hosts.Given as goal
 
 abbrev pub invariant-loop-i : goal.invariant-loop-i
-invariant-loop-i l = l.text.items ≡ l.initial.text.items ++ flat_map ended_text (map (line_of_host l.roster) (take l.i l.roster.hosts))
+invariant-loop-i l = l.text.items ≡ l.initial.text.items
+    ++ flat_map ended_text (map (line_of_host l.roster) (take l.i l.roster.hosts))

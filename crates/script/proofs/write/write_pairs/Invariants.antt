@@ -1,0 +1,10 @@
+use Rattle.std.proofs.Common.{◌≡◌, ◌++◌, take, map}
+use Rattle.std.specs.List.{flat_map, zip}
+use Rattle.script.specs.Spelling.{ended_text}
+use Rattle.script.specs.Text.{line_of_key}
+use Rattle.script.proofs.write.write_pairs.Given as goal
+
+abbrev pub invariant-loop-i : goal.invariant-loop-i
+invariant-loop-i l =
+    l.text.items ≡ l.initial.text.items
+    ++ flat_map ended_text (map line_of_key (take l.i (zip l.roster.levels l.roster.keys)))
