@@ -9,7 +9,7 @@ use Rattle.frame.specs.Pieces.{PieceView, pieces, piece_of}
 use Rattle.frame.specs.declared.refused.SendRefused.{SendRefused}
 use Rattle.frame.specs.declared.refused.SendRefused.TheVariants.{NoPartner, TooLong, Spent}
 use Rattle.events.specs.declared.event.Event.{Event}
-use Rattle.events.specs.declared.event.Event.TheVariants.{Send, Arrive, Carry}
+use Rattle.events.specs.declared.event.Event.TheVariants.{Send}
 use Rattle.events.specs.Scripts.{is_known}
 use Rattle.lattice_machine.specs.declared.line.OutLine.{OutLine}
 use Rattle.lattice_machine.specs.declared.line.OutLine.TheVariants.{Sent, Refused}

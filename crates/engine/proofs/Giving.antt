@@ -16,12 +16,14 @@ use Rattle.engine.specs.Genuine.{IsPieceOf, AreGenuine, lines_of_piece, carried}
 use Rattle.engine.proofs.Cases.{bool_cases}
 
 -- the messages sent before others keep their numbers
-get_before : (messages more : List (List ℕ)) (j : ℕ) (m : List ℕ) → slice_get messages j ≡ Some m → slice_get (messages ++ more) j ≡ Some m
+get_before : (messages more : List (List ℕ)) (j : ℕ) (m : List ℕ) → slice_get messages j ≡ Some m
+    → slice_get (messages ++ more) j ≡ Some m
 get_before [] more j m is = cc
 get_before (x ∷ messages) more zero m is = is
 get_before (x ∷ messages) more (suc j) m is = get_before messages more j m is
 
-still_piece : (messages more : List (List ℕ)) (x : PieceView) → IsPieceOf messages x → IsPieceOf (messages ++ more) x
+still_piece : (messages more : List (List ℕ)) (x : PieceView) → IsPieceOf messages x
+    → IsPieceOf (messages ++ more) x
 still_piece messages more x p = record {
   message = p.message;
   there = get_before messages more x.message p.message p.there;
@@ -30,13 +32,16 @@ still_piece messages more x p = record {
   bytes = p.bytes;
 }
 
-still_pieces : (messages more : List (List ℕ)) (h : List PieceView) → AllByRecursion (IsPieceOf messages) h
+still_pieces : (messages more : List (List ℕ)) (h : List PieceView)
+    → AllByRecursion (IsPieceOf messages) h
     → AllByRecursion (IsPieceOf (messages ++ more)) h
 still_pieces messages more [] all = tt
-still_pieces messages more (x ∷ h) all = (still_piece messages more x all.0, still_pieces messages more h all.1)
+still_pieces messages more (x ∷ h) all =
+    (still_piece messages more x all.0, still_pieces messages more h all.1)
 
 -- later messages leave the pieces as they are
-pub more_sent : (messages more : List (List ℕ)) (h : List PieceView) (arrived : List (ℕ × ℕ)) → AreGenuine messages h arrived
+pub more_sent : (messages more : List (List ℕ)) (h : List PieceView) (arrived : List (ℕ × ℕ))
+    → AreGenuine messages h arrived
     → AreGenuine (messages ++ more) h arrived
 more_sent messages more h arrived g = record {
   pieces = still_pieces messages more h g.pieces;
@@ -45,7 +50,8 @@ more_sent messages more h arrived g = record {
 }
 
 -- what has arrived counts as a set
-pub same_arrived : (messages : List (List ℕ)) (h : List PieceView) (arrived arrived' : List (ℕ × ℕ)) → AreGenuine messages h arrived →
+pub same_arrived : (messages : List (List ℕ)) (h : List PieceView) (arrived arrived' : List (ℕ × ℕ))
+    → AreGenuine messages h arrived →
     ((j i : ℕ) → has_piece arrived' j i ≡ has_piece arrived j i) →
     ((j : ℕ) → has_later arrived' j ≡ has_later arrived j) →
     AreGenuine messages h arrived'
@@ -55,7 +61,8 @@ same_arrived messages h arrived arrived' g same later = record {
   later = λ j. later j ∙ g.later j;
 }
 
-pub one_more : (messages : List (List ℕ)) (h : List PieceView) (arrived : List (ℕ × ℕ)) (x : PieceView) → AreGenuine messages h arrived
+pub one_more : (messages : List (List ℕ)) (h : List PieceView) (arrived : List (ℕ × ℕ))
+    (x : PieceView) → AreGenuine messages h arrived
     → IsPieceOf messages x →
     AreGenuine messages (x ∷ h) ((x.message, x.piece) ∷ arrived)
 one_more messages h arrived x g p = record {
@@ -73,9 +80,11 @@ none_yet messages = record {
 
 -- the pieces of each message hold its bytes
 abbrev pub PiecesHold : Type 0
-PiecesHold = (message : List ℕ) → flat_map (piece_bytes message) (range_with_len 0 (pieces message)) ≡ message
+PiecesHold = (message : List ℕ) → flat_map (piece_bytes message) (range_with_len 0 (pieces message))
+    ≡ message
 
-pub hold : ((message : List ℕ) (n : ℕ) → length message ≤ 88 * n → flat_map (piece_bytes message) (range_with_len 0 n) ≡ message)
+pub hold : ((message : List ℕ) (n : ℕ) → length message ≤ 88 * n
+    → flat_map (piece_bytes message) (range_with_len 0 n) ≡ message)
     → ((message : List ℕ) → length message ≤ 88 * pieces message) → PiecesHold
 hold joined reached message = joined message (pieces message) (reached message)
 
@@ -83,24 +92,29 @@ same_number : (a b : ℕ) → (a == b) ≡ true → a ≡ b
 same_number a b h = grind (arith, nat_tests)
 
 -- a piece of message j was cut from it
-message_of : (messages : List (List ℕ)) (x : PieceView) (j : ℕ) (m : List ℕ) (p : IsPieceOf messages x) →
+message_of : (messages : List (List ℕ)) (x : PieceView) (j : ℕ) (m : List ℕ)
+    (p : IsPieceOf messages x) →
     slice_get messages j ≡ Some m → (x.message == j) ≡ true → p.message ≡ m
 message_of messages x j m p is own =
     let j_is : x.message ≡ j = same_number x.message j own in
     same_Some p.message m (sym p.there ∙ ap (slice_get messages) j_is ∙ is)
 
-last_is : (messages : List (List ℕ)) (x : PieceView) (j : ℕ) (m : List ℕ) (p : IsPieceOf messages x) →
+last_is : (messages : List (List ℕ)) (x : PieceView) (j : ℕ) (m : List ℕ) (p : IsPieceOf messages x)
+    →
     slice_get messages j ≡ Some m → (x.message == j) ≡ true → x.last ≡ pieces m - 1
-last_is messages x j m p is own = p.last ∙ ap (λ b. pieces b - 1) (message_of messages x j m p is own)
+last_is messages x j m p is own = p.last
+    ∙ ap (λ b. pieces b - 1) (message_of messages x j m p is own)
 
 -- whether a place of a message has a piece
 abbrev has_place_at : List PieceView → ℕ → ℕ → Bool
 has_place_at h j i = list_any (λ x. x.message == j && x.piece == i) h
 
 -- the first piece of a message tells how many it has
-last_known : (messages : List (List ℕ)) (h : List PieceView) (j : ℕ) (m : List ℕ) → AllByRecursion (IsPieceOf messages) h
+last_known : (messages : List (List ℕ)) (h : List PieceView) (j : ℕ) (m : List ℕ)
+    → AllByRecursion (IsPieceOf messages) h
     → slice_get messages j ≡ Some m →
-    (last_of h j ≡ Some (pieces m - 1)) ⊎ ((last_of h j ≡ None) × ((i : ℕ) → has_place_at h j i ≡ false))
+    (last_of h j ≡ Some (pieces m - 1))
+    ⊎ ((last_of h j ≡ None) × ((i : ℕ) → has_place_at h j i ≡ false))
 last_known messages [] j m all is = inr (refl, λ i. refl)
 last_known messages (x ∷ h) j m all is =
     elim (last_known messages h j m all.1 is) [
@@ -108,25 +122,29 @@ last_known messages (x ∷ h) j m all is =
       | inr none ↦
           let none_before = none.0 in
           elim (bool_cases (x.message == j)) [
-            | inl own ↦ (let last = last_is messages x j m all.0 is own in inl (rw (none_before, own, last) refl))
+            | inl own ↦ (let last = last_is messages x j m all.0 is own in
+                inl (rw (none_before, own, last) refl))
             | inr other ↦ inr (rw (none_before, other) refl, λ i. rw other (none.1 i))
           ]
     ]
 
 -- a place is held where a piece of it is there
-held_where : (messages : List (List ℕ)) (h : List PieceView) (j : ℕ) (m : List ℕ) (i : ℕ) → AllByRecursion (IsPieceOf messages) h
+held_where : (messages : List (List ℕ)) (h : List PieceView) (j : ℕ) (m : List ℕ) (i : ℕ)
+    → AllByRecursion (IsPieceOf messages) h
     → slice_get messages j ≡ Some m →
     is_held h j (pieces m - 1) i ≡ has_place_at h j i
 held_where messages [] j m i all is = refl
 held_where messages (x ∷ h) j m i all is =
-    place_alike (x.message == j) (x.piece == i) (x.last == pieces m - 1) (is_held h j (pieces m - 1) i) (has_place_at h j i)
+    place_alike (x.message == j) (x.piece == i) (x.last == pieces m - 1)
+    (is_held h j (pieces m - 1) i) (has_place_at h j i)
     (λ own. is_same_number x.last (pieces m - 1) (last_is messages x j m all.0 is own))
     (held_where messages h j m i all.1 is)
   where
     is_same_number : (a b : ℕ) → a ≡ b → (a == b) ≡ true
     is_same_number a b e = grind (arith, nat_tests)
 
-    place_alike : (a b c r s : Bool) → (a ≡ true → c ≡ true) → r ≡ s → ((a && b && c) || r) ≡ ((a && b) || s)
+    place_alike : (a b c r s : Bool) → (a ≡ true → c ≡ true) → r ≡ s
+        → ((a && b && c) || r) ≡ ((a && b) || s)
     place_alike true true c r s last same = let t = last refl in rw t refl
     place_alike true false c r s last same = same
     place_alike false b c r s last same = same
@@ -140,7 +158,8 @@ unfolding piece_count
 one_at_least n = omega arith
 
 -- a message is whole where all its pieces have arrived
-pub whole_when : (messages : List (List ℕ)) (h : List PieceView) (arrived : List (ℕ × ℕ)) (j : ℕ) (m : List ℕ) →
+pub whole_when : (messages : List (List ℕ)) (h : List PieceView) (arrived : List (ℕ × ℕ)) (j : ℕ)
+    (m : List ℕ) →
     AreGenuine messages h arrived → slice_get messages j ≡ Some m →
     is_whole h j ≡ has_all (Some m) arrived j
 whole_when messages h arrived j m g is =
@@ -148,43 +167,54 @@ whole_when messages h arrived j m g is =
       | inl known ↦
           let count : pieces m - 1 + 1 ≡ pieces m = omega (arith, one_at_least (length m)) in
           rw known (ap (λ n. list_all (is_held h j (pieces m - 1)) (range_with_len 0 n)) count
-          ∙ all_alike (is_held h j (pieces m - 1)) (has_piece arrived j) (range_with_len 0 (pieces m)) (λ i. held_where messages h j m i g.pieces is ∙ sym (g.same j i)))
+          ∙ all_alike (is_held h j (pieces m - 1)) (has_piece arrived j)
+          (range_with_len 0 (pieces m)) (λ i. held_where messages h j m i g.pieces is
+          ∙ sym (g.same j i)))
       | inr none ↦
           let none_there = none.0 in
-          rw none_there (sym (first_missing (has_piece arrived j) (pieces m) (one_at_least (length m)) (g.same j 0 ∙ none.1 0)))
+          rw none_there (sym (first_missing (has_piece arrived j) (pieces m)
+          (one_at_least (length m)) (g.same j 0 ∙ none.1 0)))
     ]
   where
-    first_missing : (P : ℕ → Bool) (n : ℕ) → 0 < n → P 0 ≡ false → list_all P (range_with_len 0 n) ≡ false
+    first_missing : (P : ℕ → Bool) (n : ℕ) → 0 < n → P 0 ≡ false
+        → list_all P (range_with_len 0 n) ≡ false
     first_missing P zero some missing = absurd (omega arith)
     first_missing P (suc n) some missing = rw missing refl
 
 -- the bytes of a place that is held are those that were cut from the message
-bytes_where : (messages : List (List ℕ)) (h : List PieceView) (j : ℕ) (m : List ℕ) (i : ℕ) → AllByRecursion (IsPieceOf messages) h
+bytes_where : (messages : List (List ℕ)) (h : List PieceView) (j : ℕ) (m : List ℕ) (i : ℕ)
+    → AllByRecursion (IsPieceOf messages) h
     → slice_get messages j ≡ Some m →
-    bytes_at h j (pieces m - 1) i ≡ (if is_held h j (pieces m - 1) i then Some (piece_bytes m i) else None)
+    bytes_at h j (pieces m - 1) i ≡ (if is_held h j (pieces m - 1) i then Some (piece_bytes m i)
+    else None)
 bytes_where messages [] j m i all is = refl
 bytes_where messages (x ∷ h) j m i all is =
-    one_place (bytes_at h j (pieces m - 1) i) (is_at j (pieces m - 1) i x) (is_held h j (pieces m - 1) i) (used_bytes x) (piece_bytes m i)
+    one_place (bytes_at h j (pieces m - 1) i) (is_at j (pieces m - 1) i x)
+    (is_held h j (pieces m - 1) i) (used_bytes x) (piece_bytes m i)
     (bytes_where messages h j m i all.1 is)
     (λ here.
     let own : (x.message == j) ≡ true = grind (arith, nat_tests) in
     let place : x.piece ≡ i = grind (arith, nat_tests) in
-    all.0.bytes ∙ ap (λ b. piece_bytes b x.piece) (message_of messages x j m all.0 is own) ∙ ap (piece_bytes m) place)
+    all.0.bytes ∙ ap (λ b. piece_bytes b x.piece) (message_of messages x j m all.0 is own)
+    ∙ ap (piece_bytes m) place)
   where
-    one_place : (o : Option (List ℕ)) (here held : Bool) (own bytes : List ℕ) → o ≡ (if held then Some bytes else None) → (here ≡ true → own ≡ bytes) →
+    one_place : (o : Option (List ℕ)) (here held : Bool) (own bytes : List ℕ)
+        → o ≡ (if held then Some bytes else None) → (here ≡ true → own ≡ bytes) →
         or_else o (if here then Some own else None) ≡ (if here || held then Some bytes else None)
     one_place o true true own bytes before now = rw before refl
     one_place o true false own bytes before now = rw before (ap Some (now refl))
     one_place o false true own bytes before now = rw before refl
     one_place o false false own bytes before now = rw before refl
 
-joined_alike : (f g : ℕ → List ℕ) (P : ℕ → Bool) (xs : List ℕ) → ((i : ℕ) → P i ≡ true → f i ≡ g i) → list_all P xs ≡ true
+joined_alike : (f g : ℕ → List ℕ) (P : ℕ → Bool) (xs : List ℕ) → ((i : ℕ) → P i ≡ true → f i ≡ g i)
+    → list_all P xs ≡ true
     → flat_map f xs ≡ flat_map g xs
 joined_alike f g P [] same all = refl
 joined_alike f g P (x ∷ xs) same all = grind (arith, nat_tests, same x, joined_alike f g P xs same)
 
 -- a message that is whole is the one that was cut
-pub body_when : (messages : List (List ℕ)) (h : List PieceView) (arrived : List (ℕ × ℕ)) (j : ℕ) (m : List ℕ) →
+pub body_when : (messages : List (List ℕ)) (h : List PieceView) (arrived : List (ℕ × ℕ)) (j : ℕ)
+    (m : List ℕ) →
     PiecesHold → AreGenuine messages h arrived → slice_get messages j ≡ Some m →
     is_whole h j ≡ true → body h j ≡ m
 body_when messages h arrived j m hold g is whole =
@@ -192,34 +222,44 @@ body_when messages h arrived j m hold g is whole =
       | inl known ↦
           let count : pieces m - 1 + 1 ≡ pieces m = omega (arith, one_at_least (length m)) in
           let all = rw known at whole in
-          rw known (joined_alike (λ i. unwrap_or (bytes_at h j (pieces m - 1) i) []) (piece_bytes m) (is_held h j (pieces m - 1)) (places_to (pieces m - 1))
-          (λ i held. ap (λ o. unwrap_or o []) (bytes_where messages h j m i g.pieces is) ∙ rw held refl) all
+          rw known (joined_alike (λ i. unwrap_or (bytes_at h j (pieces m - 1) i) []) (piece_bytes m)
+          (is_held h j (pieces m - 1)) (places_to (pieces m - 1))
+          (λ i held. ap (λ o. unwrap_or o []) (bytes_where messages h j m i g.pieces is)
+          ∙ rw held refl) all
           ∙ ap (λ n. flat_map (piece_bytes m) (range_with_len 0 n)) count
           ∙ hold m)
       | inr none ↦ (let none_there = none.0 in let never = rw none_there at whole in cc)
     ]
 
 -- the pieces that came give what is to be given
-completes_when : (messages : List (List ℕ)) (h : List PieceView) (before now : List (ℕ × ℕ)) (x : PieceView) (m : List ℕ) →
-    AreGenuine messages h before → AreGenuine messages (x ∷ h) now → slice_get messages x.message ≡ Some m →
+completes_when : (messages : List (List ℕ)) (h : List PieceView) (before now : List (ℕ × ℕ))
+    (x : PieceView) (m : List ℕ) →
+    AreGenuine messages h before → AreGenuine messages (x ∷ h) now
+    → slice_get messages x.message ≡ Some m →
     completes h x ≡ is_given (Some m) before now x.message
 completes_when messages h before now x m g g' is =
     let whole_now = whole_when messages (x ∷ h) now x.message m g' is in
     let whole_before = whole_when messages h before x.message m g is in
     let later = g.later x.message in
     ap (λ b. b && not (is_whole h x.message) && not (list.has_newer h x.message)) whole_now
-    ∙ ap (λ b. has_all (Some m) now x.message && not b && not (list.has_newer h x.message)) whole_before
-    ∙ ap (λ b. has_all (Some m) now x.message && not (has_all (Some m) before x.message) && not b) (sym later)
+    ∙ ap (λ b. has_all (Some m) now x.message && not b && not (list.has_newer h x.message))
+    whole_before
+    ∙ ap (λ b. has_all (Some m) now x.message && not (has_all (Some m) before x.message) && not b)
+    (sym later)
 
 -- the line of a piece that completes its message has the message
-line_when : (messages : List (List ℕ)) (h : List PieceView) (now : List (ℕ × ℕ)) (x : PieceView) (m : List ℕ) →
+line_when : (messages : List (List ℕ)) (h : List PieceView) (now : List (ℕ × ℕ)) (x : PieceView)
+    (m : List ℕ) →
     PiecesHold → AreGenuine messages (x ∷ h) now → slice_get messages x.message ≡ Some m →
     lines_of_piece h x ≡ given_line (Host x.from) (if completes h x then Some m else None)
 line_when messages h now x m hold g' is =
     elim (bool_cases (completes h x)) [
       | inl done ↦
-          let whole : is_whole (x ∷ h) x.message ≡ true = and_left (is_whole (x ∷ h) x.message) (not (is_whole h x.message)) (not (list.has_newer h x.message)) done in
-          let bytes : body (x ∷ h) x.message ≡ m = body_when messages (x ∷ h) now x.message m hold g' is whole in
+          let whole : is_whole (x ∷ h) x.message ≡ true =
+          and_left (is_whole (x ∷ h) x.message) (not (is_whole h x.message))
+          (not (list.has_newer h x.message)) done in
+          let bytes : body (x ∷ h) x.message ≡ m =
+          body_when messages (x ∷ h) now x.message m hold g' is whole in
           rw (done, bytes) refl
       | inr unfinished ↦ rw unfinished refl
     ]
@@ -228,13 +268,19 @@ line_when messages h now x m hold g' is =
     and_left a b c all = grind (arith, nat_tests)
 
 -- a piece that arrives gives a message where the lattice machine does
-pub arrived_line : (messages : List (List ℕ)) (h : List PieceView) (arrived : List (ℕ × ℕ)) (x : PieceView) (m : List ℕ) →
-    PiecesHold → AreGenuine messages h arrived → IsPieceOf messages x → slice_get messages x.message ≡ Some m →
-    lines_of_piece h x ≡ given_line (Host x.from) (if is_given (Some m) arrived ((x.message, x.piece) ∷ arrived) x.message then Some m else None)
+pub arrived_line : (messages : List (List ℕ)) (h : List PieceView) (arrived : List (ℕ × ℕ))
+    (x : PieceView) (m : List ℕ) →
+    PiecesHold → AreGenuine messages h arrived → IsPieceOf messages x
+    → slice_get messages x.message ≡ Some m →
+    lines_of_piece h x ≡ given_line (Host x.from)
+    (if is_given (Some m) arrived ((x.message, x.piece) ∷ arrived) x.message then Some m
+    else None)
 arrived_line messages h arrived x m hold g p is =
     let now = (x.message, x.piece) ∷ arrived in
     let g' : AreGenuine messages (x ∷ h) now = one_more messages h arrived x g p in
-    line_when messages h now x m hold g' is ∙ ap (λ b. given_line (Host x.from) (if b then Some m else None)) (completes_when messages h arrived now x m g g' is)
+    line_when messages h now x m hold g' is
+    ∙ ap (λ b. given_line (Host x.from) (if b then Some m else None))
+    (completes_when messages h arrived now x m g g' is)
 
 -- one more piece of a message that is carried
 carried_more : (f : ℕ × ℕ → Bool) (j k : ℕ) (arrived : List (ℕ × ℕ))
@@ -242,14 +288,16 @@ carried_more : (f : ℕ × ℕ → Bool) (j k : ℕ) (arrived : List (ℕ × ℕ
 carried_more f j k arrived =
     let e : k + 1 ≡ suc k = omega arith in
     let start : 0 + k ≡ k = omega arith in
-    ap (λ n. list_any f (carried j n arrived)) e ∙ from 0 k ∙ ap (λ n. f (j, n) || list_any f (carried j k arrived)) start
+    ap (λ n. list_any f (carried j n arrived)) e ∙ from 0 k
+    ∙ ap (λ n. f (j, n) || list_any f (carried j k arrived)) start
   where
     swapped : (a b c : Bool) → (a || (b || c)) ≡ (b || (a || c))
     swapped true true c = refl
     swapped true false c = refl
     swapped false b c = refl
 
-    from : (a n : ℕ) → list_any f (map (λ i. (j, i)) (range_with_len a (suc n)) ++ arrived) ≡ (f (j, a + n) || list_any f (map (λ i. (j, i)) (range_with_len a n) ++ arrived))
+    from : (a n : ℕ) → list_any f (map (λ i. (j, i)) (range_with_len a (suc n)) ++ arrived)
+        ≡ (f (j, a + n) || list_any f (map (λ i. (j, i)) (range_with_len a n) ++ arrived))
     from a zero = let e : a ≡ a + 0 = omega arith in ap (λ i. f (j, i) || list_any f arrived) e
     from a (suc n) =
         let e : a + 1 + n ≡ a + suc n = omega arith in
@@ -259,16 +307,20 @@ carried_more f j k arrived =
         ∙ ap (λ i. f (j, i) || (f (j, a) || rest)) e
 
 -- the next piece of a message that is carried
-pub one_carried : (messages : List (List ℕ)) (h : List PieceView) (j k : ℕ) (arrived : List (ℕ × ℕ)) (x : PieceView) →
-    AreGenuine messages h (carried j k arrived) → IsPieceOf messages x → x.message ≡ j → x.piece ≡ k →
+pub one_carried : (messages : List (List ℕ)) (h : List PieceView) (j k : ℕ) (arrived : List (ℕ × ℕ))
+    (x : PieceView) →
+    AreGenuine messages h (carried j k arrived) → IsPieceOf messages x → x.message ≡ j → x.piece ≡ k
+    →
     AreGenuine messages (x ∷ h) (carried j (k + 1) arrived)
 one_carried messages h j k arrived x g p message_is piece_is =
     let before = carried j k arrived in
-    same_arrived messages (x ∷ h) ((x.message, x.piece) ∷ before) (carried j (k + 1) arrived) (one_more messages h before x g p)
+    same_arrived messages (x ∷ h) ((x.message, x.piece) ∷ before) (carried j (k + 1) arrived)
+    (one_more messages h before x g p)
     (λ j' i. rw (message_is, piece_is) (carried_more (λ q. q.0 == j' && q.1 == i) j k arrived))
     (λ j'. rw message_is (carried_more (λ q. nat_lt j' q.0) j k arrived))
 
-all_more : (P Q : ℕ → Bool) (xs : List ℕ) → ((i : ℕ) → P i ≡ true → Q i ≡ true) → list_all P xs ≡ true → list_all Q xs ≡ true
+all_more : (P Q : ℕ → Bool) (xs : List ℕ) → ((i : ℕ) → P i ≡ true → Q i ≡ true)
+    → list_all P xs ≡ true → list_all Q xs ≡ true
 all_more P Q [] more all = refl
 all_more P Q (x ∷ xs) more all = grind (arith, nat_tests, more x, all_more P Q xs more)
 
@@ -277,48 +329,72 @@ or_right true b h = refl
 or_right false b h = h
 
 -- what had arrived before a message is carried
-carried_keeps : (m : List ℕ) (j k : ℕ) (arrived : List (ℕ × ℕ)) → has_all (Some m) arrived j ≡ true → has_all (Some m) (carried j k arrived) j ≡ true
+carried_keeps : (m : List ℕ) (j k : ℕ) (arrived : List (ℕ × ℕ)) → has_all (Some m) arrived j ≡ true
+    → has_all (Some m) (carried j k arrived) j ≡ true
 carried_keeps m j k arrived all =
     all_more (has_piece arrived j) (has_piece (carried j k arrived) j) (range_with_len 0 (pieces m))
-    (λ i held. list_any-append (λ (q : ℕ × ℕ). q.0 == j && q.1 == i) (map (λ i. (j, i)) (range_with_len 0 k)) arrived
-    ∙ or_right (has_piece (map (λ i. (j, i)) (range_with_len 0 k)) j i) (has_piece arrived j i) held)
+    (λ i held. list_any-append (λ (q : ℕ × ℕ). q.0 == j && q.1 == i)
+    (map (λ i. (j, i)) (range_with_len 0 k)) arrived
+    ∙ or_right (has_piece (map (λ i. (j, i)) (range_with_len 0 k)) j i) (has_piece arrived j i)
+    held)
     all
 
 carried_grows : (m : List ℕ) (j k : ℕ) (arrived : List (ℕ × ℕ)) →
-    has_all (Some m) (carried j k arrived) j ≡ true → has_all (Some m) (carried j (k + 1) arrived) j ≡ true
+    has_all (Some m) (carried j k arrived) j ≡ true
+    → has_all (Some m) (carried j (k + 1) arrived) j ≡ true
 carried_grows m j k arrived all =
-    all_more (has_piece (carried j k arrived) j) (has_piece (carried j (k + 1) arrived) j) (range_with_len 0 (pieces m))
-    (λ i held. carried_more (λ (q : ℕ × ℕ). q.0 == j && q.1 == i) j k arrived ∙ or_right (j == j && k == i) (has_piece (carried j k arrived) j i) held)
+    all_more (has_piece (carried j k arrived) j) (has_piece (carried j (k + 1) arrived) j)
+    (range_with_len 0 (pieces m))
+    (λ i held. carried_more (λ (q : ℕ × ℕ). q.0 == j && q.1 == i) j k arrived
+    ∙ or_right (j == j && k == i) (has_piece (carried j k arrived) j i) held)
     all
 
 -- no piece of a message is later than it
-carried_later : (j : ℕ) (places : List ℕ) (arrived : List (ℕ × ℕ)) → has_later (map (λ i. (j, i)) places ++ arrived) j ≡ has_later arrived j
+carried_later : (j : ℕ) (places : List ℕ) (arrived : List (ℕ × ℕ))
+    → has_later (map (λ i. (j, i)) places ++ arrived) j ≡ has_later arrived j
 carried_later j [] arrived = refl
-carried_later j (i ∷ places) arrived = let own : nat_lt j j ≡ false = grind (arith, nat_tests) in rw own (carried_later j places arrived)
+carried_later j (i ∷ places) arrived = let own : nat_lt j j ≡ false = grind (arith, nat_tests) in
+    rw own (carried_later j places arrived)
 
 -- each piece of a message that is carried adds its line
-pub carried_line : (messages : List (List ℕ)) (h : List PieceView) (j k : ℕ) (arrived : List (ℕ × ℕ)) (x : PieceView) (m : List ℕ) → PiecesHold →
-    AreGenuine messages h (carried j k arrived) → IsPieceOf messages x → x.message ≡ j → x.piece ≡ k → slice_get messages j ≡ Some m →
-    given_line (Host x.from) (if is_given (Some m) arrived (carried j (k + 1) arrived) j then Some m else None)
-    ≡ given_line (Host x.from) (if is_given (Some m) arrived (carried j k arrived) j then Some m else None) ++ lines_of_piece h x
+pub carried_line : (messages : List (List ℕ)) (h : List PieceView) (j k : ℕ)
+    (arrived : List (ℕ × ℕ)) (x : PieceView) (m : List ℕ) → PiecesHold →
+    AreGenuine messages h (carried j k arrived) → IsPieceOf messages x → x.message ≡ j → x.piece ≡ k
+    → slice_get messages j ≡ Some m →
+    given_line (Host x.from) (if is_given (Some m) arrived (carried j (k + 1) arrived) j then Some m
+    else None)
+    ≡ given_line (Host x.from) (if is_given (Some m) arrived (carried j k arrived) j then Some m
+    else None) ++ lines_of_piece h x
 carried_line messages h j k arrived x m hold g p message_is piece_is is =
     let before = carried j k arrived in
     let now = carried j (k + 1) arrived in
-    let g' : AreGenuine messages (x ∷ h) now = one_carried messages h j k arrived x g p message_is piece_is in
+    let g' : AreGenuine messages (x ∷ h) now =
+    one_carried messages h j k arrived x g p message_is piece_is in
     let is' : slice_get messages x.message ≡ Some m = ap (slice_get messages) message_is ∙ is in
-    let done : completes h x ≡ (has_all (Some m) now j && not (has_all (Some m) before j) && not (has_later arrived j)) =
+    let done : completes h x ≡ (has_all (Some m) now j && not (has_all (Some m) before j)
+    && not (has_later arrived j)) =
     completes_when messages h before now x m g g' is'
     ∙ ap (is_given (Some m) before now) message_is
-    ∙ ap (λ b. has_all (Some m) now j && not (has_all (Some m) before j) && not b) (carried_later j (range_with_len 0 k) arrived) in
-    lines_join (Host x.from) (has_all (Some m) arrived j) (has_all (Some m) before j) (has_all (Some m) now j) (has_later arrived j)
+    ∙ ap (λ b. has_all (Some m) now j && not (has_all (Some m) before j) && not b)
+    (carried_later j (range_with_len 0 k) arrived) in
+    lines_join (Host x.from) (has_all (Some m) arrived j) (has_all (Some m) before j)
+    (has_all (Some m) now j) (has_later arrived j)
     (carried_keeps m j k arrived) (carried_grows m j k arrived)
-    ∙ ap (λ b. given_line (Host x.from) (if is_given (Some m) arrived before j then Some m else None) ++ given_line (Host x.from) (if b then Some m else None)) (sym done)
-    ∙ ap (λ lines. given_line (Host x.from) (if is_given (Some m) arrived before j then Some m else None) ++ lines) (sym (line_when messages h now x m hold g' is'))
+    ∙ ap (λ b. given_line (Host x.from)
+    (if is_given (Some m) arrived before j then Some m else None)
+    ++ given_line (Host x.from) (if b then Some m else None)) (sym done)
+    ∙ ap (λ lines. given_line (Host x.from)
+    (if is_given (Some m) arrived before j then Some m else None) ++ lines)
+    (sym (line_when messages h now x m hold g' is'))
   where
-    lines_join : (s : Party) (was before now later : Bool) → (was ≡ true → before ≡ true) → (before ≡ true → now ≡ true) →
+    lines_join : (s : Party) (was before now later : Bool) → (was ≡ true → before ≡ true)
+        → (before ≡ true → now ≡ true) →
         given_line s (if now && not was && not later then Some m else None)
-        ≡ given_line s (if before && not was && not later then Some m else None) ++ given_line s (if now && not before && not later then Some m else None)
-    lines_join s was true now later keeps grows = let t = grows refl in rw t (sym (append-nil (given_line s (if true && not was && not later then Some m else None))))
+        ≡ given_line s (if before && not was && not later then Some m else None)
+        ++ given_line s (if now && not before && not later then Some m else None)
+    lines_join s was true now later keeps grows = let t = grows refl in
+        rw t (sym (append-nil (given_line s (if true && not was && not later then Some m
+        else None))))
     lines_join s true false now later keeps grows = let t = keeps refl in cc
     lines_join s false false now later keeps grows = refl
 
@@ -326,7 +402,8 @@ carried_line messages h j k arrived x m hold g p message_is piece_is is =
 pub carried_none : (s : Party) (j : ℕ) (arrived : List (ℕ × ℕ)) (m : List ℕ) →
     given_line s (if is_given (Some m) arrived (carried j 0 arrived) j then Some m else None) ≡ []
 carried_none s j arrived m =
-    ap (λ b. given_line s (if b then Some m else None)) (not_twice (has_all (Some m) arrived j) (not (has_later arrived j)))
+    ap (λ b. given_line s (if b then Some m else None))
+    (not_twice (has_all (Some m) arrived j) (not (has_later arrived j)))
   where
     not_twice : (a b : Bool) → (a && not a && b) ≡ false
     not_twice true b = refl

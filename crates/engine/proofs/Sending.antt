@@ -7,7 +7,7 @@ use Rattle.levels.specs.declared.level.Partition.{Partition}
 use Rattle.levels.specs.declared.level.Party.TheVariants.{Host}
 use Rattle.levels.specs.Rosters.{RosterView, partition_of, is_same_party, is_one_partition, is_partner}
 use Rattle.events.specs.declared.event.Event.{Event}
-use Rattle.events.specs.declared.event.Event.TheVariants.{Send, Arrive, Carry}
+use Rattle.events.specs.declared.event.Event.TheVariants.{Send}
 use Rattle.events.specs.Scripts.{is_known}
 use Rattle.lattice_machine.specs.Sent.{is_accepted, sent_by}
 use Rattle.engine.specs.Standing.{number_in, sent_between}

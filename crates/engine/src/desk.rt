@@ -39,8 +39,10 @@ impl Desk {
         requires different { AreDifferent partners.now }
         ensures address { IfOk result (λ desk. desk.host.address ≡ address) }
         ensures partition { IfOk result (λ desk. desk.host.partition ≡ partition) }
-        ensures numbers { IfOk result (λ desk. (a : ℕ) → a < 256 → next_of desk.host a ≡ first_number partners.now 0 a) }
-        ensures stands { IfOk result (λ desk. (a : ℕ) → a < 256 → has_stream desk.host a ≡ true → StandsFor desk.host a []) }
+        ensures numbers { IfOk result (λ desk. (a : ℕ) → a < 256
+            → next_of desk.host a ≡ first_number partners.now 0 a) }
+        ensures stands { IfOk result (λ desk. (a : ℕ) → a < 256 → has_stream desk.host a ≡ true
+            → StandsFor desk.host a []) }
         ensures lines { IfOk result (λ desk. desk.lines ≡ []) }
     {
         let side = HostSide::open(alloc, address, partition, partners)?;
@@ -50,10 +52,14 @@ impl Desk {
         })
     }
 
-    /// The host sends a message, and is told the answer. Ok has the number of the message, if it is sent.
+    /// The host sends a message, and is told the answer. Ok has the number of the message, if it is
+    /// sent.
     pub fn send(&mut self, to: u8, message: &[u8]) -> Result<Option<u32>, AllocError>
-        ensures desk { OnOk result (self.new ≡ after_send self.old to (send_answer (next_of self.old.host to) (length message.now))) }
-        ensures number { IfOk result (λ number. number ≡ number_of (send_answer (next_of self.old.host to) (length message.now))) }
+        ensures desk { OnOk result (self.new
+            ≡ after_send self.old to (send_answer (next_of self.old.host to)
+            (length message.now))) }
+        ensures number { IfOk result (λ number. number
+            ≡ number_of (send_answer (next_of self.old.host to) (length message.now))) }
     {
         let answer = self.side.send(to, message);
         let to = Party::Host(to);
@@ -76,8 +82,10 @@ impl Desk {
         piece: &Piece,
         out: &mut [u8; 5632],
     ) -> Result<(), AllocError>
-        ensures ignored { OnOk result (is_for self.old.host piece.now ≡ false → self.new ≡ self.old) }
-        ensures heard { OnOk result (is_for self.old.host piece.now ≡ true → Hears self.old piece.now self.new) }
+        ensures ignored { OnOk result (is_for self.old.host piece.now ≡ false
+            → self.new ≡ self.old) }
+        ensures heard { OnOk result (is_for self.old.host piece.now ≡ true
+            → Hears self.old piece.now self.new) }
     {
         if !self.side.takes(piece) {
             return Ok(());

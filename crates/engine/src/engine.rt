@@ -101,7 +101,8 @@ fn step(
 ) -> Result<(), AllocError>
     requires named { is_named roster.now event.now ≡ true }
     requires plain { IsBetweenHosts event.now }
-    ensures { OnOk result ((past : List Event) → length past < 100000 → Stands roster.now past network.old → Stands roster.now (event.now ∷ past) network.new) }
+    ensures { OnOk result ((past : List Event) → length past < 100000
+        → Stands roster.now past network.old → Stands roster.now (event.now ∷ past) network.new) }
 {
     match event {
         Event::Send { from, to, message } => {
@@ -148,13 +149,16 @@ impl Engine {
         Ok(Engine { script, network })
     }
 
-    /// Runs the script: each host is told what the lattice machine tells it on the events at or below its level.
+    /// Runs the script: each host is told what the lattice machine tells it on the events at or
+    /// below its level.
     pub fn run<R: Threads>(self, rt: &R, alloc: Global) -> Result<Report, AllocError>
         requires { AllByRecursion IsBetweenHosts self.events }
         ensures script { IfOk result (λ report. report.script ≡ self) }
         ensures strangers { IfOk result (λ report. (a : ℕ) → a < 256 →
             is_known self.roster (Host a) ≡ false → lines_of report a ≡ []) }
-        ensures lines { IfOk result (λ report. (a : ℕ) → is_known self.roster (Host a) ≡ true → lines_of report a ≡ told_within self.roster self.events (Host a) (level_of self.roster (Host a))) }
+        ensures lines { IfOk result (λ report. (a : ℕ) → is_known self.roster (Host a) ≡ true
+            → lines_of report a ≡ told_within self.roster self.events (Host a)
+            (level_of self.roster (Host a))) }
     {
         only_low_events_count();
         let Engine {

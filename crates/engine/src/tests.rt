@@ -3,8 +3,8 @@ use lattice_machine::OutLine;
 use script::read_script;
 use std::test::Fail;
 
-const TEXT: &str =
-    "dss 1\nlevel U 0 -\nhost 1 U\nhost 2 U\nbegin\nsend 1 2 6869\nsend 1 2 aa\ncarry 1>2#1 to 2\ncarry 1>2#0 to 2\nend\n";
+const TEXT: &str = "dss 1\nlevel U 0 -\nhost 1 U\nhost 2 U\nbegin\n\
+     send 1 2 6869\nsend 1 2 aa\ncarry 1>2#1 to 2\ncarry 1>2#0 to 2\nend\n";
 
 /// The bytes of a message that was given.
 fn given(line: Option<&OutLine>) -> &[u8] {

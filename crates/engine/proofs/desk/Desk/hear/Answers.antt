@@ -13,15 +13,19 @@ pub returns-in_ok-push-in-Some-clause-heard : goal.returns-in_ok-push-in-Some-cl
 returns-in_ok-push-in-Some-clause-heard c = λ is.
     let x = c.args.piece.now in
     let given = c.in-Some.given in
-    let host : c.self.inside.side ≡ c.args.self.now.host = ap (λ (d : DeskView). d.host) c.self.view_is in
-    let lines : c.self.inside.lines.items ≡ c.args.self.now.lines = ap (λ (d : DeskView). d.lines) c.self.view_is in
+    let host : c.self.inside.side ≡ c.args.self.now.host =
+    ap (λ (d : DeskView). d.host) c.self.view_is in
+    let lines : c.self.inside.lines.items ≡ c.args.self.now.lines =
+    ap (λ (d : DeskView). d.lines) c.self.view_is in
     let received = c.receive.ensures in
     record {
       joins = λ h stands.
           let before = subst (λ (side : HostView). StandsFor side x.from h) (sym host) stands in
           let answer = sym c.in-Some.is ∙ received.answer h before in
-          let line = line_of_given h x c.args.out.now c.receive.new.out given answer (received.written h before) in
-          let body = c.in_ok-body-in-Some.ensures ∙ ap (λ n. take n c.receive.new.out) c.from.ensures in (
+          let line = line_of_given h x c.args.out.now c.receive.new.out given answer
+          (received.written h before) in
+          let body = c.in_ok-body-in-Some.ensures
+          ∙ ap (λ n. take n c.receive.new.out) c.from.ensures in (
             received.stands h before,
             c.in_ok-push-in-Some.ensures.items
                 ∙ ap (λ bytes. c.self.inside.lines.items ++ From (Host given.from) bytes ∷ []) body
@@ -30,23 +34,28 @@ returns-in_ok-push-in-Some-clause-heard c = λ is.
           );
       streams = received.numbers ∙ ap (λ (side : HostView). side.streams) host;
       names = subst (λ (side : HostView). SameNames side c.receive.new.self) host received.names;
-      others = subst (λ (side : HostView). SameElsewhere side.window c.receive.new.self.window x.from) host received.others;
+      others = subst (λ (side : HostView). SameElsewhere side.window c.receive.new.self.window
+          x.from) host received.others;
     }
 
 pub returns-in-None-clause-heard : goal.returns-in-None-clause-heard
 returns-in-None-clause-heard c = λ is.
     let x = c.args.piece.now in
-    let host : c.self.inside.side ≡ c.args.self.now.host = ap (λ (d : DeskView). d.host) c.self.view_is in
-    let lines : c.self.inside.lines.items ≡ c.args.self.now.lines = ap (λ (d : DeskView). d.lines) c.self.view_is in
+    let host : c.self.inside.side ≡ c.args.self.now.host =
+    ap (λ (d : DeskView). d.host) c.self.view_is in
+    let lines : c.self.inside.lines.items ≡ c.args.self.now.lines =
+    ap (λ (d : DeskView). d.lines) c.self.view_is in
     let received = c.receive.ensures in
     record {
       joins = λ h stands.
           let before = subst (λ (side : HostView). StandsFor side x.from h) (sym host) stands in
           let none = no_line_of h x (sym c.in-None.is ∙ received.answer h before) in (
             received.stands h before,
-            lines ∙ sym (append-nil c.args.self.now.lines) ∙ ap (λ more. c.args.self.now.lines ++ more) (sym none),
+            lines ∙ sym (append-nil c.args.self.now.lines)
+                ∙ ap (λ more. c.args.self.now.lines ++ more) (sym none),
           );
       streams = received.numbers ∙ ap (λ (side : HostView). side.streams) host;
       names = subst (λ (side : HostView). SameNames side c.receive.new.self) host received.names;
-      others = subst (λ (side : HostView). SameElsewhere side.window c.receive.new.self.window x.from) host received.others;
+      others = subst (λ (side : HostView). SameElsewhere side.window c.receive.new.self.window
+          x.from) host received.others;
     }
