@@ -15,24 +15,27 @@ use Rattle.lattice_machine.specs.declared.line.OutLine.{OutLine}
 use Rattle.lattice_machine.specs.Text.{host_text, due_at, text_to}
 use Rattle.engine.specs.ReportView.{ReportView}
 use Rattle.engine.specs.Reports.{lines_of}
-use Rattle.replay.specs.Due.{IsReport}
+use Rattle.replay.specs.inside.Reports.{IsReport}
 
 abbrev pub row_of : ℕ → Partition → HostRow
 row_of address partition = record { address = address; partition = partition }
 
 -- the row that is found has the address
-row_found : (rows : List HostRow) (address : ℕ) (partition : Partition) → option_map (λ (r : HostRow). r.partition) (find (λ r. r.address == address) rows) ≡ Some partition
+row_found : (rows : List HostRow) (address : ℕ) (partition : Partition)
+    → option_map (λ (r : HostRow). r.partition) (find (λ r. r.address == address) rows) ≡ Some partition
     → find (λ r. r.address == address) rows ≡ Some (row_of address partition)
 row_found [] address partition h = cc
 row_found (row ∷ rows) address partition h = grind (arith, nat_tests, row_found rows address partition)
 
 -- what a report has of a host, under the heading of a roster that was read, is due to it
-pub reported : (report : ReportView) (read : RosterView) (address : ℕ) (partition : Partition) (lines : List OutLine) → IsReport report
+pub reported : (report : ReportView) (read : RosterView) (address : ℕ) (partition : Partition) (lines : List OutLine)
+    → IsReport report
     → read ≡ report.script.roster → partition_of read (Host address) ≡ Some partition → lines ≡ lines_of report address
     → host_text read (row_of address partition) lines ≡ due_at report.script (host_row report.script.roster address)
 reported report read address partition lines told_all same is lines_are =
     let roster = report.script.roster in
-    let own : partition_of roster (Host address) ≡ Some partition = subst (λ (r : RosterView). partition_of r (Host address) ≡ Some partition) same is in
+    let own : partition_of roster (Host address) ≡ Some partition =
+    subst (λ (r : RosterView). partition_of r (Host address) ≡ Some partition) same is in
     let known : is_known roster (Host address) ≡ true = ap is_some own in
     ap (λ (r : RosterView). host_text r (row_of address partition) lines) same
     ∙ ap (host_text roster (row_of address partition)) (lines_are ∙ told_all address known)
@@ -41,22 +44,26 @@ reported report read address partition lines told_all same is lines_are =
 range_more : (a n : ℕ) → range_with_len a (suc n) ≡ range_with_len a n ++ (a + n) ∷ []
 range_more a zero = ap (λ k. k ∷ []) (let e : a ≡ a + 0 = omega arith in e)
 range_more a (suc n) =
-    ap (λ t. a ∷ t) (range_more (a + 1) n ∙ ap (λ k. range_with_len (a + 1) n ++ k ∷ []) (let e : a + 1 + n ≡ a + suc n = omega arith in e))
+    ap (λ t. a ∷ t) (range_more (a + 1) n ∙ ap (λ k. range_with_len (a + 1) n ++ k ∷ [])
+    (let e : a + 1 + n ≡ a + suc n = omega arith in e))
 
 pub text_at_first : (script : ScriptView) → text_to script 0 ≡ []
 unfolding text_to
 text_at_first script = refl
 
 -- one address more
-pub text_more : (script : ScriptView) (n : ℕ) → text_to script (suc n) ≡ text_to script n ++ due_at script (host_row script.roster (suc n))
+pub text_more : (script : ScriptView) (n : ℕ)
+    → text_to script (suc n) ≡ text_to script n ++ due_at script (host_row script.roster (suc n))
 unfolding text_to
 text_more script n =
     let f = λ (a : ℕ). due_at script (host_row script.roster a) in
     let one : 1 + n ≡ suc n = omega arith in
-    ap (flat_map f) (range_more 1 n) ∙ flat_map-append f (range_with_len 1 n) ((1 + n) ∷ []) ∙ ap (λ (t : List ℕ). flat_map f (range_with_len 1 n) ++ t) (append-nil (f (1 + n)) ∙ ap f one)
+    ap (flat_map f) (range_more 1 n) ∙ flat_map-append f (range_with_len 1 n) ((1 + n) ∷ [])
+    ∙ ap (λ (t : List ℕ). flat_map f (range_with_len 1 n) ++ t) (append-nil (f (1 + n)) ∙ ap f one)
 
 -- a step of the loop over the addresses
-pub text_step : (script : ScriptView) (address : ℕ) (old new : List ℕ) → 1 ≤ address → old ≡ text_to script (address - 1)
+pub text_step : (script : ScriptView) (address : ℕ) (old new : List ℕ) → 1 ≤ address
+    → old ≡ text_to script (address - 1)
     → new ≡ old ++ due_at script (host_row script.roster address) → new ≡ text_to script (address + 1 - 1)
 text_step script address old new h before after =
     let one : suc (address - 1) ≡ address = omega arith in

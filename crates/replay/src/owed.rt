@@ -1,35 +1,24 @@
-ghost use Rattle.std.specs.Prelude.{◌≡◌, ◌++◌, OnOk, IfOk, ◌<◌, length};
-ghost use Rattle.script.specs.Reasons.{FirstRefusal};
-ghost use Rattle.replay.specs.Due.{reason_word, refused_line, check_line, text_for, IsDue};
-ghost use Rattle.replay.specs.declared.owed.Verdict.TheVariants.{Fine, Refused};
-ghost use Rattle.replay.specs.declared.command.Command.TheVariants.{Replay};
+ghost use Rattle.std.specs.Prelude.{◌≡◌, IfOk, Some};
+ghost use Rattle.lattice_machine.specs.Text.{text};
+ghost use Rattle.replay.specs.Due.{reason_word, refused_line, check_line, Due};
+ghost use Rattle.replay.specs.declared.status.Status.TheVariants.{Fine, Refused};
+ghost use Rattle.replay.specs.inside.Owing.{text_for};
 ghost use Rattle.script.specs.Today.{IsBetweenHosts};
 ghost use Rattle.std.specs.List.{AllByRecursion};
 
 use crate::command::Command;
 use crate::print;
+use crate::status::Status;
 use engine::Engine;
 use events::push_number;
 use script::{Reason, Refusal, Script, ScriptRefused, read_script};
 use std::alloc::{AllocError, Global};
 use std::thread::Threads;
 
-/// How many answers of the store a script plans: none yet.
-const STORE_ANSWERS: u32 = 0;
-
-/// What is due for an input.
-#[derive(Clone, Copy, Debug, PartialEq, Eq)]
-pub enum Verdict {
-    /// It is a script.
-    Fine,
-    /// It is refused.
-    Refused(Refusal),
-}
-
-/// The verdict and the text that are due for an input.
+/// The status and the text that are due.
 #[derive(Drop)]
 pub struct Owed {
-    pub verdict: Verdict,
+    pub status: Status,
     pub text: Vec<u8>,
 }
 
@@ -63,6 +52,7 @@ fn check_line(alloc: Global, script: &Script) -> Result<Vec<u8>, AllocError>
     ensures { IfOk result (λ line. line.items ≡ check_line script.now) }
 {
     let roster = script.roster();
+    let rows = script.rows().len() as u32;
     let events = script.events().len() as u32;
     let mut line = Vec::new(alloc);
     line.extend_from_slice(b"ok levels ".as_slice())?;
@@ -70,7 +60,7 @@ fn check_line(alloc: Global, script: &Script) -> Result<Vec<u8>, AllocError>
     line.extend_from_slice(b" hosts ".as_slice())?;
     push_number(alloc, &mut line, u32::from(roster.host_count()))?;
     line.extend_from_slice(b" store ".as_slice())?;
-    push_number(alloc, &mut line, STORE_ANSWERS)?;
+    push_number(alloc, &mut line, rows)?;
     line.extend_from_slice(b" events ".as_slice())?;
     push_number(alloc, &mut line, events)?;
     line.extend_from_slice(b"\n".as_slice())?;
@@ -79,7 +69,7 @@ fn check_line(alloc: Global, script: &Script) -> Result<Vec<u8>, AllocError>
 
 fn replay_text<R: Threads>(rt: &R, alloc: Global, script: Script) -> Result<Vec<u8>, AllocError>
     requires { AllByRecursion IsBetweenHosts script.events }
-    ensures { IfOk result (λ written. written.items ≡ text_for Replay script) }
+    ensures { IfOk result (λ written. written.items ≡ text script) }
 {
     let report = Engine::open(alloc, script)?.run(rt, alloc)?;
     print::text(alloc, &report)
@@ -100,13 +90,14 @@ fn text_for<R: Threads>(
     }
 }
 
-/// What is due for a text that is refused.
+/// What is due for an input that is refused.
 pub fn refusal_owed(alloc: Global, refusal: Refusal) -> Result<Owed, AllocError>
-    ensures { IfOk result (λ owed. (owed.verdict ≡ Refused refusal) × (owed.text.items ≡ refused_line refusal)) }
+    ensures { IfOk result (λ owed.
+        (owed.status ≡ Refused refusal) × (owed.text.items ≡ refused_line refusal)) }
 {
     let text = refused_line(alloc, refusal)?;
-    let verdict = Verdict::Refused(refusal);
-    Ok(Owed { verdict, text })
+    let status = Status::Refused(refusal);
+    Ok(Owed { status, text })
 }
 
 fn script_owed<R: Threads>(
@@ -116,11 +107,12 @@ fn script_owed<R: Threads>(
     script: Script,
 ) -> Result<Owed, AllocError>
     requires { AllByRecursion IsBetweenHosts script.events }
-    ensures { IfOk result (λ owed. (owed.verdict ≡ Fine) × (owed.text.items ≡ text_for command script)) }
+    ensures { IfOk result (λ owed.
+        (owed.status ≡ Fine) × (owed.text.items ≡ text_for command script)) }
 {
     let text = text_for(rt, alloc, command, script)?;
-    let verdict = Verdict::Fine;
-    Ok(Owed { verdict, text })
+    let status = Status::Fine;
+    Ok(Owed { status, text })
 }
 
 /// What is due for an input.
@@ -130,7 +122,7 @@ pub fn answer_to<R: Threads>(
     command: Command,
     bytes: Vec<u8>,
 ) -> Result<Owed, AllocError>
-    ensures { IfOk result (λ owed. IsDue command bytes.items owed.verdict owed.text.items) }
+    ensures { IfOk result (λ owed. Due bytes.items (Some command) owed.status owed.text.items) }
 {
     match read_script(alloc, &bytes) {
         Ok(script) => {

@@ -3,9 +3,9 @@ ghost use Rattle.std.specs.List.{flat_map};
 ghost use Rattle.levels.specs.declared.level.Party.TheVariants.{Manager};
 ghost use Rattle.levels.specs.Rosters.{host_row};
 ghost use Rattle.events.specs.Words.{party_word};
-ghost use Rattle.lattice_machine.specs.Text.{refusal_word, line_text, heading, host_text, due_at, text_to, text};
+ghost use Rattle.lattice_machine.specs.Text.{refusal_word, told_text, heading, host_text, due_at, text_to, text};
 ghost use Rattle.lattice_machine.specs.declared.line.OutLine.TheVariants.{Sent, Refused, From};
-ghost use Rattle.replay.specs.Due.{IsReport};
+ghost use Rattle.replay.specs.inside.Reports.{IsReport};
 
 use engine::Report;
 use events::{Body, push_hex, push_number};
@@ -32,7 +32,8 @@ fn push_party(
 }
 
 fn push_name(out: &mut Vec<u8>, roster: &Roster, partition: Partition) -> Result<(), AllocError>
-    ensures { OnOk result (out.new.items ≡ out.old.items ++ party_word roster.now (Manager partition)) }
+    ensures { OnOk result (out.new.items ≡ out.old.items
+        ++ party_word roster.now (Manager partition)) }
 {
     if partition.0 >= roster.level_count() {
         return Ok(());
@@ -48,7 +49,8 @@ fn push_sent(
     to: Party,
     message: u32,
 ) -> Result<(), AllocError>
-    ensures { OnOk result (out.new.items ≡ out.old.items ++ line_text roster.now (Sent to message)) }
+    ensures { OnOk result (out.new.items ≡ out.old.items
+        ++ told_text roster.now (Sent to message)) }
 {
     out.extend_from_slice(b"sent ".as_slice())?;
     push_party(alloc, out, roster, to)?;
@@ -74,7 +76,7 @@ fn push_refused(
     to: Party,
     why: SendRefused,
 ) -> Result<(), AllocError>
-    ensures { OnOk result (out.new.items ≡ out.old.items ++ line_text roster.now (Refused to why)) }
+    ensures { OnOk result (out.new.items ≡ out.old.items ++ told_text roster.now (Refused to why)) }
 {
     out.extend_from_slice(b"refused ".as_slice())?;
     push_party(alloc, out, roster, to)?;
@@ -90,7 +92,8 @@ fn push_given(
     from: Party,
     body: &Body,
 ) -> Result<(), AllocError>
-    ensures { OnOk result (out.new.items ≡ out.old.items ++ line_text roster.now (From from body.now)) }
+    ensures { OnOk result (out.new.items ≡ out.old.items
+        ++ told_text roster.now (From from body.now)) }
 {
     out.extend_from_slice(b"from ".as_slice())?;
     push_party(alloc, out, roster, from)?;
@@ -105,7 +108,7 @@ fn push_line(
     roster: &Roster,
     line: &OutLine,
 ) -> Result<(), AllocError>
-    ensures { OnOk result (out.new.items ≡ out.old.items ++ line_text roster.now line.now) }
+    ensures { OnOk result (out.new.items ≡ out.old.items ++ told_text roster.now line.now) }
 {
     match line {
         OutLine::Sent { to, message } => push_sent(alloc, out, roster, *to, *message),
@@ -120,7 +123,8 @@ fn push_lines(
     roster: &Roster,
     lines: &[OutLine],
 ) -> Result<(), AllocError>
-    ensures { OnOk result (out.new.items ≡ out.old.items ++ flat_map (line_text roster.now) lines.now) }
+    ensures { OnOk result (out.new.items ≡ out.old.items
+        ++ flat_map (told_text roster.now) lines.now) }
 {
     for line in lines {
         push_line(alloc, out, roster, line)?;
@@ -138,7 +142,8 @@ fn push_host(
     lines: &[OutLine],
 ) -> Result<(), AllocError>
     ensures { OnOk result (out.new.items
-        ≡ out.old.items ++ host_text roster.now (record { address = address; partition = partition }) lines.now) }
+        ≡ out.old.items ++ host_text roster.now
+        (record { address = address; partition = partition }) lines.now) }
 {
     out.extend_from_slice(b"host ".as_slice())?;
     push_number(alloc, out, u32::from(address))?;
@@ -156,7 +161,8 @@ fn push_host_at(
     address: u8,
 ) -> Result<(), AllocError>
     requires { IsReport report.now }
-    ensures { OnOk result (out.new.items ≡ out.old.items ++ due_at report.now.script (host_row report.now.script.roster address)) }
+    ensures { OnOk result (out.new.items ≡ out.old.items
+        ++ due_at report.now.script (host_row report.now.script.roster address)) }
 {
     let roster = report.script().roster();
     let Some(partition) = roster.partition_of(Party::Host(address)) else {

@@ -107,8 +107,8 @@ fn message_of(alloc: Global, count: usize) -> Result<String, AllocError> {
     Ok(hex)
 }
 
-/// Host 1 sends a message of so many bytes, and then events happen. Host 1 is told of its sends; host 2 is given the message
-/// or not, and then other lines.
+/// Host 1 sends a message of so many bytes, and then events happen. Host 1 is told of its sends;
+/// host 2 is given the message or not, and then other lines.
 type Sending<'a> = (usize, &'a str, &'a str, bool, &'a str);
 
 fn expect_together<R: Threads + Abort>(

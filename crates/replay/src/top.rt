@@ -1,18 +1,13 @@
-ghost use Rattle.std.specs.Prelude.{◌≡◌, ◌≢◌, ◌⊎◌, ◌↔◌, ◌<◌, ℕ, List, map, length, string_bytes, IfSome, Some, None};
-ghost use Rattle.std.specs.Io.KnownBytes.{Keeps, Appends, IsAtEnd};
+ghost use Rattle.std.specs.Prelude.{◌≡◌, ◌≢◌, ◌⊎◌, ◌↔◌, ◌+◌, ℕ, List, map, string_bytes, Some, None};
 ghost use Rattle.dss_io.specs.Faults.{Rose};
-ghost use Rattle.dss_io.specs.Writing.{AppendsProperPrefix};
-ghost use Rattle.script.specs.declared.refusal.Refusal.{Refusal};
-ghost use Rattle.events.specs.ScriptView.{ScriptView};
-ghost use Rattle.script.specs.Reasons.{FirstRefusal, IsScriptOf};
-ghost use Rattle.replay.specs.declared.command.Command.{Command};
+ghost use Rattle.dss_io.specs.Reading.{TakesAtMost};
 ghost use Rattle.replay.specs.declared.status.Status.{Status};
-ghost use Rattle.replay.specs.Due.{command_of, refused_line, text_for, IsDue, IsOwed, too_long, status_of, WritesBeginning, WritesAll, Delivers};
-ghost use Rattle.replay.specs.declared.owed.Verdict.{Verdict};
-ghost use Rattle.replay.specs.declared.owed.Verdict.TheVariants.{Refused};
+ghost use Rattle.replay.specs.declared.status.Status.TheVariants.{Refused};
+ghost use Rattle.replay.specs.Due.{command_of, refused_line, Due, Delivers, IsAnswer, ReadsToEnd};
+ghost use Rattle.replay.specs.inside.Owing.{IsOwed, too_long};
 
 use crate::command::{Command, command_of};
-use crate::owed::{Owed, Verdict, answer_to, refusal_owed};
+use crate::owed::{Owed, answer_to, refusal_owed};
 use crate::status::Status;
 use dss_io::{ReadStop, Sink, SinkStop, Source, read_all, write_all};
 use script::{Reason, Refusal, TEXT_LIMIT};
@@ -25,22 +20,16 @@ const TOO_LONG: Refusal = Refusal {
     reason: Reason::Many,
 };
 
-fn status_of(verdict: Verdict) -> Status
-    ensures { result ≡ status_of verdict }
-{
-    match verdict {
-        Verdict::Fine => Status::Fine,
-        Verdict::Refused(refusal) => Status::Refused(refusal),
-    }
-}
-
 /// Writes what is due.
 fn deliver<K: Sink>(sink: &mut K, owed: Owed) -> Status
-    ensures answer { Delivers (IsOwed owed.verdict owed.text.items) result (K.written sink.old) (K.written sink.new) }
+    requires { IsAnswer owed.status }
+    ensures answer { Delivers (IsOwed owed.status owed.text.items) result
+        (K.written sink.old) (K.written sink.new) }
+    ensures read { result ≢ Status.ReadFault }
     ensures fault { result ≡ Status.WriteFault → Rose (K.faults sink.old) (K.faults sink.new) }
 {
     match write_all(sink, &owed.text) {
-        Ok(()) => status_of(owed.verdict),
+        Ok(()) => owed.status,
         Err(SinkStop::Failed) => Status::WriteFault,
         Err(SinkStop::OutOfMemory) => Status::OutOfMemory,
     }
@@ -54,7 +43,9 @@ fn answer<R: Threads, K: Sink>(
     bytes: Vec<u8>,
     sink: &mut K,
 ) -> Status
-    ensures answer { Delivers (IsDue command bytes.items) result (K.written sink.old) (K.written sink.new) }
+    ensures answer { Delivers (Due bytes.items (Some command)) result
+        (K.written sink.old) (K.written sink.new) }
+    ensures read { result ≢ Status.ReadFault }
     ensures fault { result ≡ Status.WriteFault → Rose (K.faults sink.old) (K.faults sink.new) }
 {
     match answer_to(rt, alloc, command, bytes) {
@@ -65,7 +56,9 @@ fn answer<R: Threads, K: Sink>(
 
 /// Refuses an input that is too long.
 fn refuse_long<K: Sink>(alloc: Global, sink: &mut K) -> Status
-    ensures answer { Delivers (IsOwed (Refused too_long) (refused_line too_long)) result (K.written sink.old) (K.written sink.new) }
+    ensures answer { Delivers (IsOwed (Refused too_long) (refused_line too_long)) result
+        (K.written sink.old) (K.written sink.new) }
+    ensures read { result ≢ Status.ReadFault }
     ensures fault { result ≡ Status.WriteFault → Rose (K.faults sink.old) (K.faults sink.new) }
 {
     match refusal_owed(alloc, TOO_LONG) {
@@ -82,12 +75,15 @@ fn carry_out<R: Threads, S: Source, K: Sink>(
     source: &mut S,
     sink: &mut K,
 ) -> Status
-    ensures told { (bytes : List ℕ) → S.left source.old ≡ Some bytes →
-        (result ≡ Status.ReadFault) ⊎ Delivers (IsDue command bytes) result (K.written sink.old) (K.written sink.new) }
-    ensures end { result ≡ Status.Fine → IsAtEnd (S.left source.new) }
-    ensures read_fault { result ≡ Status.ReadFault → Rose (S.faults source.old) (S.faults source.new) }
+    ensures delivers { (bytes : List ℕ) → S.left source.old ≡ Some bytes →
+        Delivers (Due bytes (Some command)) result (K.written sink.old) (K.written sink.new) }
+    ensures taken { TakesAtMost (S.left source.old) (S.left source.new) (TEXT_LIMIT + 1) }
+    ensures end { ReadsToEnd result (S.left source.new) }
+    ensures read_fault { result ≡ Status.ReadFault
+        → Rose (S.faults source.old) (S.faults source.new) }
     ensures unwritten { result ≡ Status.ReadFault → sink.new ≡ sink.old }
-    ensures write_fault { result ≡ Status.WriteFault → Rose (K.faults sink.old) (K.faults sink.new) }
+    ensures write_fault { result ≡ Status.WriteFault
+        → Rose (K.faults sink.old) (K.faults sink.new) }
     ensures used { result ≢ Status.Usage }
 {
     match read_all(alloc, source, TEXT_LIMIT) {
@@ -113,34 +109,27 @@ pub fn run<R: Threads, S: Source, K: Sink>(
     ensures usage { (result ≡ Status.Usage) ↔ (command_of (map string_bytes words.now) ≡ None) }
     ensures unused { result ≡ Status.Usage → (source.new ≡ source.old) × (sink.new ≡ sink.old) }
 
+    // Of a source that tells its bytes: what is answered is due, and all of its text was written;
+    // after a fault of writing, or want of memory, no more than the beginning of it was.
+    ensures delivers { (bytes : List ℕ) → S.left source.old ≡ Some bytes →
+        Delivers (Due bytes (command_of (map string_bytes words.now))) result
+        (K.written sink.old) (K.written sink.new) }
+
     // A fault is answered only where its count rose. After a fault of reading nothing was written.
-    ensures read_fault { result ≡ Status.ReadFault → Rose (S.faults source.old) (S.faults source.new) }
+    ensures read_fault { result ≡ Status.ReadFault
+        → Rose (S.faults source.old) (S.faults source.new) }
     ensures unwritten { result ≡ Status.ReadFault → sink.new ≡ sink.old }
-    ensures write_fault { result ≡ Status.WriteFault → Rose (K.faults sink.old) (K.faults sink.new) }
+    ensures write_fault { result ≡ Status.WriteFault
+        → Rose (K.faults sink.old) (K.faults sink.new) }
 
-    // Of a source that tells its bytes: what is written of a clean text, which is read to its end, is
-    // what the lattice machine says.
-    ensures fine { (command : Command) (bytes : List ℕ) → command_of (map string_bytes words.now) ≡ Some command →
-        S.left source.old ≡ Some bytes → result ≡ Status.Fine →
-        (script : ScriptView) × IsScriptOf bytes script ×
-        Appends (K.written sink.old) (K.written sink.new) (text_for command script) × IsAtEnd (S.left source.new) }
-    // Another text is refused at its first refusal, and one line says so.
-    ensures refused { (command : Command) (bytes : List ℕ) → command_of (map string_bytes words.now) ≡ Some command →
-        S.left source.old ≡ Some bytes → (refusal : Refusal) → result ≡ Status.Refused refusal →
-        FirstRefusal bytes refusal × Appends (K.written sink.old) (K.written sink.new) (refused_line refusal) }
-    // Where writing fails, or memory runs out, no more than the beginning of what is due was written.
-    ensures begun { (command : Command) (bytes : List ℕ) → command_of (map string_bytes words.now) ≡ Some command →
-        S.left source.old ≡ Some bytes → result ≡ Status.WriteFault →
-        WritesBeginning (IsDue command bytes) (K.written sink.old) (K.written sink.new) }
-    ensures memory { (command : Command) (bytes : List ℕ) → command_of (map string_bytes words.now) ≡ Some command →
-        S.left source.old ≡ Some bytes → result ≡ Status.OutOfMemory →
-        Keeps (K.written sink.old) (K.written sink.new) ⊎ WritesBeginning (IsDue command bytes) (K.written sink.old) (K.written sink.new) }
+    // Where no count rises, the answer is one that is due, unless memory runs out.
+    ensures complete { ¬ Rose (S.faults source.old) (S.faults source.new)
+        → ¬ Rose (K.faults sink.old) (K.faults sink.new)
+        → IsAnswer result ⊎ (result ≡ Status.OutOfMemory) }
 
-    // Where no count rises, what is due is answered and written, unless memory runs out.
-    ensures complete { (command : Command) (bytes : List ℕ) → command_of (map string_bytes words.now) ≡ Some command →
-        S.left source.old ≡ Some bytes →
-        ¬ Rose (S.faults source.old) (S.faults source.new) → ¬ Rose (K.faults sink.old) (K.faults sink.new) →
-        (result ≡ Status.OutOfMemory) ⊎ ((owed : Verdict) × ((result ≡ status_of owed) × WritesAll (IsDue command bytes) owed (K.written sink.old) (K.written sink.new))) }
+    // What is taken from the source, whatever the answer; and that it was read to its end.
+    ensures taken { TakesAtMost (S.left source.old) (S.left source.new) (TEXT_LIMIT + 1) }
+    ensures end { ReadsToEnd result (S.left source.new) }
 {
     match command_of(words) {
         Some(command) => carry_out(rt, alloc, command, source, sink),

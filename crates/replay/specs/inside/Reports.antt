@@ -12,4 +12,4 @@ abbrev pub IsReport : ReportView → Type 0
 IsReport report =
     (a : ℕ) → is_known report.script.roster (Host a) ≡ true
     → lines_of report a ≡ told_within report.script.roster report.script.events (Host a)
-        (level_of report.script.roster (Host a))
+    (level_of report.script.roster (Host a))

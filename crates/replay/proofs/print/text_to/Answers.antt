@@ -7,7 +7,8 @@ pub loop-address-init : goal.loop-address-init
 loop-address-init c = c.new-out.ensures.items ∙ sym (text_at_first c.args.report.now.script)
 
 pub loop-address-preserved : goal.loop-address-preserved
-loop-address-preserved c = text_step c.args.report.now.script c.loop-address.address c.loop-address.out.items _ (omega arith) c.loop-address.invariant c.in_ok-push_host_at.ensures
+loop-address-preserved c = text_step c.args.report.now.script c.loop-address.address c.loop-address.out.items _
+    (omega arith) c.loop-address.invariant c.in_ok-push_host_at.ensures
 
 pub returns : goal.returns
 returns c = c.loop-address.invariant ∙ ap (text_to c.args.report.now.script) (omega arith)
