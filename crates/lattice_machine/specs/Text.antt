@@ -27,8 +27,8 @@ words_of roster (From from body) = codes "from" ∷ party_word roster from ∷ h
 abbrev pub line : List (List ℕ) → List ℕ
 line words = join_with_byte 32 words ++ 10 ∷ []
 
-abbrev pub line_text : RosterView → OutLine → List ℕ
-line_text roster l = line (words_of roster l)
+abbrev pub told_text : RosterView → OutLine → List ℕ
+told_text roster l = line (words_of roster l)
 
 -- a host's address, and its level's name
 abbrev pub heading : RosterView → HostRow → List ℕ
@@ -37,7 +37,7 @@ heading roster row =
 
 -- a host's heading, and below it its lines
 abbrev pub host_text : RosterView → HostRow → List OutLine → List ℕ
-host_text roster row lines = heading roster row ++ flat_map (line_text roster) lines
+host_text roster row lines = heading roster row ++ flat_map (told_text roster) lines
 
 -- what is due to a host: what the events at or below its level alone tell it
 abbrev pub due_to : ScriptView → HostRow → List ℕ

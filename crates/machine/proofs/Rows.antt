@@ -245,29 +245,35 @@ frame = 68 ∷ 83 ∷ 1 ∷ 0 ∷ 0 ∷ 0 ∷ 0 ∷ 0
 
 row_12_frame : frames (script_of [] row_1_events)
     ≡ record { stream = stream 1 2; message = 0; piece = 0; bytes = frame } ∷ []
-unfolding gives piece_count piece_bytes padded frame_of plain_of nonce_of header sealer clear_text clear_check blocks first_blocks
+unfolding gives piece_count piece_bytes padded frame_of plain_of nonce_of header sealer clear_text clear_check blocks
+    first_blocks
 row_12_frame = refl
 
 row_12_wire : take 40 (wire_text (script_of [] row_1_events))
     ≡ codes "1>2#0.0 44530100000000000102000000000000"
-unfolding digits encode_with gives piece_count piece_bytes padded frame_of plain_of nonce_of header sealer clear_text clear_check blocks first_blocks
+unfolding digits encode_with gives piece_count piece_bytes padded frame_of plain_of nonce_of header sealer clear_text
+    clear_check blocks first_blocks
 row_12_wire = refl
 
 row_12_forged : told (script_of [] (Send 1 (Host 2) hi ∷ Forge (Host 2) frame ∷ [])) (Host 2)
     ≡ From (Host 1) hi ∷ []
-unfolding gives piece_count piece_bytes padded frame_of plain_of nonce_of header sealer clear_text clear_check blocks first_blocks
+unfolding gives piece_count piece_bytes padded frame_of plain_of nonce_of header sealer clear_text clear_check blocks
+    first_blocks
 row_12_forged = refl
 
 row_12_early : told (script_of [] (Forge (Host 2) frame ∷ Send 1 (Host 2) hi ∷ [])) (Host 2) ≡ []
-unfolding gives piece_count piece_bytes padded frame_of plain_of nonce_of header sealer clear_text clear_check blocks first_blocks
+unfolding gives piece_count piece_bytes padded frame_of plain_of nonce_of header sealer clear_text clear_check blocks
+    first_blocks
 row_12_early = refl
 
 row_12_elsewhere : told (script_of [] (Send 1 (Host 2) hi ∷ Forge (Host 5) frame ∷ [])) (Host 5) ≡ []
-unfolding gives piece_count piece_bytes padded frame_of plain_of nonce_of header sealer clear_text clear_check blocks first_blocks
+unfolding gives piece_count piece_bytes padded frame_of plain_of nonce_of header sealer clear_text clear_check blocks
+    first_blocks
 row_12_elsewhere = refl
 
 row_12_not_here : told (script_of [] (Send 1 (Host 2) hi ∷ Forge (Host 5) frame ∷ [])) (Host 2) ≡ []
-unfolding gives piece_count piece_bytes padded frame_of plain_of nonce_of header sealer clear_text clear_check blocks first_blocks
+unfolding gives piece_count piece_bytes padded frame_of plain_of nonce_of header sealer clear_text clear_check blocks
+    first_blocks
 row_12_not_here = refl
 
 row_11 : told (script_of []
@@ -284,7 +290,8 @@ changed = 1 ∷ 2 ∷ 0 ∷ 0 ∷ 0 ∷ 0 ∷ 0 ∷ 0
 
 row_11_false : IsFalse (setup_of (script_of [] [])) (state_at (script_of [] (Send 1 (Host 2) hi ∷ [])) 1)
     (Tamper (stream 1 2) 0 0 (Host 2) ((32, 1) ∷ (40, 1) ∷ []))
-unfolding gives piece_count piece_bytes padded frame_of plain_of nonce_of header sealer clear_text clear_check blocks first_blocks
+unfolding gives piece_count piece_bytes padded frame_of plain_of nonce_of header sealer clear_text clear_check blocks
+    first_blocks
 row_11_false = record {
   bytes = frame;
   sent = record { body = hi; sent = refl; piece = omega arith; same = refl };
@@ -495,7 +502,8 @@ row_23 : text (record { roster = roster_of_three; rows = []; events = day })
     ++ codes "host 3 C\nsent 4 0\nsent 4 1\nsent 4 2\nsent C 0\nfrom C 03\n"
     ++ codes "host 4 C\nfrom 3 68656c6c6f\nfrom 3 627965\nhost 5 S\nsent S 0\n"
     ++ codes "host 6 S\nsent S 0\nfrom S 02000000000000000100036d6f6e\n"
-unfolding gives piece_count hosts_in_order digits encode_with call_text call_of reply_text question_by reply_with writing next_action reply
+unfolding gives piece_count hosts_in_order digits encode_with call_text call_of reply_text question_by reply_with
+    writing next_action reply
 row_23 = refl
 
 -- ---- the record of a file

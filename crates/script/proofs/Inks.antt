@@ -19,7 +19,7 @@ use Rattle.script.specs.declared.line.StreamWord.{StreamWord}
 use Rattle.script.specs.Lines.{CallWords, EventWords, StoreWords, Line}
 use Rattle.script.specs.Lines as line
 use Rattle.script.specs.Spelling.{party_text, stream_text, numbers_text, piece_text, byte_text, edit_text, call_words, event_words, action_words, pair_words, line_words, line_text}
-use Rattle.script.specs.Ranges.{IsAddress, IsLevelName, IsFileName, IsContent, IsMessage, IsPiece, HasPartyRange, HasStreamRanges, HasCallRanges, HasEventRanges, HasActionRanges, HasRanges}
+use Rattle.script.specs.Ranges.{IsAddress, IsLevelName, IsFileName, IsContent, IsMessageNumber, IsPieceNumber, HasPartyRange, HasStreamRanges, HasCallRanges, HasEventRanges, HasActionRanges, HasRanges}
 use Rattle.script.proofs.Tools.{both, weaker, is_ink, IsInk, ink_lacks}
 use Rattle.script.proofs.Numbers.{decimal_digits}
 use Rattle.script.proofs.Letters.{cats_ink}
@@ -50,10 +50,10 @@ content_ink bytes fits =
 address_ink : (address : ℕ) → IsAddress address → IsInk (decimal address)
 address_ink address fits = decimal_ink address (omega (arith, fits.1))
 
-message_ink : (number : ℕ) → IsMessage number → IsInk (decimal number)
+message_ink : (number : ℕ) → IsMessageNumber number → IsInk (decimal number)
 message_ink number fits = decimal_ink number (omega (arith, fits.1))
 
-piece_ink : (number : ℕ) → IsPiece number → IsInk (decimal number)
+piece_ink : (number : ℕ) → IsPieceNumber number → IsInk (decimal number)
 piece_ink number fits = decimal_ink number (omega (arith, fits.1))
 
 pub party_ink : (party : PartyWord) → HasPartyRange party → IsInk (party_text party)
@@ -71,8 +71,8 @@ stream_ink stream fits =
     joined_ink (party_text stream.from) 62 (party_text stream.to) (party_ink stream.from fits.0)
     refl (party_ink stream.to fits.1)
 
-named_ink : (stream : StreamWord) (message piece : ℕ) → HasStreamRanges stream → IsMessage message
-    → IsPiece piece
+named_ink : (stream : StreamWord) (message piece : ℕ) → HasStreamRanges stream → IsMessageNumber message
+    → IsPieceNumber piece
     → IsInk (piece_text (stream, (message, piece)))
 named_ink stream message piece s m p =
     let numbers = joined_ink (decimal message) 46 (decimal piece) (message_ink message m) refl

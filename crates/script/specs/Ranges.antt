@@ -29,12 +29,12 @@ abbrev pub IsContent : List ℕ → Type 0
 IsContent bytes = is_content bytes ≡ true
 
 -- a number of four bytes
-abbrev pub IsMessage : ℕ → Type 0
-IsMessage number = InRange 0 4294967295 number
+abbrev pub IsMessageNumber : ℕ → Type 0
+IsMessageNumber number = InRange 0 4294967295 number
 
 -- a message has at most 64 pieces
-abbrev pub IsPiece : ℕ → Type 0
-IsPiece number = InRange 0 63 number
+abbrev pub IsPieceNumber : ℕ → Type 0
+IsPieceNumber number = InRange 0 63 number
 
 abbrev pub HasPartyRange : PartyWord → Type 0
 HasPartyRange (Address address) = IsAddress address
@@ -56,12 +56,13 @@ abbrev pub HasEventRanges : EventWords → Type 0
 HasEventRanges (line.Send from to message) = IsAddress from × HasPartyRange to × AreBytes message
 HasEventRanges (line.Ask from call) = IsAddress from × HasCallRanges call
 HasEventRanges (line.Deliver stream message piece at) =
-    HasStreamRanges stream × IsMessage message × IsPiece piece × HasPartyRange at
+    HasStreamRanges stream × IsMessageNumber message × IsPieceNumber piece × HasPartyRange at
 HasEventRanges (line.Carry stream message at) =
-    HasStreamRanges stream × IsMessage message × HasPartyRange at
+    HasStreamRanges stream × IsMessageNumber message × HasPartyRange at
 HasEventRanges (line.Forge at bytes) = HasPartyRange at × (length bytes ≡ 128) × AreBytes bytes
 HasEventRanges (line.Tamper stream message piece at edits) =
-    HasStreamRanges stream × IsMessage message × IsPiece piece × HasPartyRange at × AreEdits edits
+    HasStreamRanges stream × IsMessageNumber message × IsPieceNumber piece × HasPartyRange at
+        × AreEdits edits
 
 -- a version is counted from 1, and a byte is changed
 abbrev pub HasActionRanges : StoreWords → Type 0
