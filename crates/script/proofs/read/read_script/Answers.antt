@@ -1,4 +1,5 @@
 use Rattle.std.proofs.Common.{◌≤◌, length, arith}
+use Rattle.script.specs.declared.read.TheConstants.{TEXT_LIMIT}
 use Rattle.script.specs.inside.Stages.{seen}
 use Rattle.script.proofs.Looping.{goes_on_by, stops_by, ends_badly_by, finishes_by, whole_text, whole_today, whole_hosts}
 use Rattle.script.proofs.Reached.{reached_none}
@@ -25,7 +26,7 @@ loop-text-preserved c = record {
 
 pub returns-in-Err-clause-exact : goal.returns-in-Err-clause-exact
 returns-in-Err-clause-exact c =
-    let short : length c.args.bytes.now ≤ 16777216 = omega arith in
+    let short : length c.args.bytes.now ≤ TEXT_LIMIT = omega arith in
     rw c.at_line-in-Err.ensures (stops_by c.args.bytes.now c.loop-text.line c.loop-text.rest.now
     c.in-Some.behind.now c.in-Some.text.now
     (seen c.loop-text.stage) c.in-Err.stop short c.loop-text.invariant.one
@@ -33,7 +34,7 @@ returns-in-Err-clause-exact c =
 
 pub returns-in-Ok-finish : goal.returns-in-Ok-finish
 returns-in-Ok-finish c =
-    let short : length c.args.bytes.now ≤ 16777216 = omega arith in
+    let short : length c.args.bytes.now ≤ TEXT_LIMIT = omega arith in
     let of = finishes_by c.args.bytes.now c.loop-text.line c.loop-text.rest.now
     (seen c.loop-text.stage) c.in-Ok-finish.script
     short c.loop-text.invariant.reached c.in-Ok-finish.ensures in
@@ -46,7 +47,7 @@ returns-in-Ok-finish c =
 
 pub returns-in-Err-finish-clause-exact : goal.returns-in-Err-finish-clause-exact
 returns-in-Err-finish-clause-exact c =
-    let short : length c.args.bytes.now ≤ 16777216 = omega arith in
+    let short : length c.args.bytes.now ≤ TEXT_LIMIT = omega arith in
     rw c.at_line-in-Err-finish.ensures
     (ends_badly_by c.args.bytes.now c.loop-text.line c.loop-text.rest.now
     (seen c.loop-text.stage)
