@@ -106,5 +106,5 @@ same_if_agree f g df dg (suc n) h x lt =
           ap (λ (p : ℕ). bit_xor p (x - 2 ^ n)) (omega arith) ∙ xor_shifted 1 n (x - 2 ^ n) small ∙ omega arith in
           let rest = same_if_agree f g df dg n below (x - 2 ^ n) small in
           ap f (sym sum) ∙ df.step (2 ^ n) (x - 2 ^ n) ∙ ap₂ xor_bits here rest ∙ sym (dg.step (2 ^ n) (x - 2 ^ n))
-              ∙ ap g sum
+          ∙ ap g sum
     ]

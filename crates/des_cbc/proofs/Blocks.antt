@@ -50,7 +50,7 @@ one_more n k j xs e h =
 
 pub eight : (xs : List ℕ) (k : ℕ) → k + 8 ≤ length xs
     → take 8 (drop k xs) ≡ get_or xs k 0 ∷ get_or xs (k + 1) 0 ∷ get_or xs (k + 2) 0 ∷ get_or xs (k + 3) 0
-        ∷ get_or xs (k + 4) 0 ∷ get_or xs (k + 5) 0 ∷ get_or xs (k + 6) 0 ∷ get_or xs (k + 7) 0 ∷ []
+    ∷ get_or xs (k + 4) 0 ∷ get_or xs (k + 5) 0 ∷ get_or xs (k + 6) 0 ∷ get_or xs (k + 7) 0 ∷ []
 eight xs k h =
     one_more 7 k (k + 1) xs (omega arith) (omega arith)
     ∙ ap (λ (t : List ℕ). get_or xs k 0 ∷ t) (one_more 6 (k + 1) (k + 2) xs (omega arith) (omega arith)

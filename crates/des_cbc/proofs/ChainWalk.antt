@@ -42,14 +42,14 @@ pub written_all : (out done : List ℕ) (k : ℕ) (cs : List (List Bool)) → le
 unfolding text_bytes
 written_all out done k cs len h e =
     sym (take_all k out len) ∙ sym (append-nil (take k out))
-        ∙ ap (λ (bs : List (List Bool)). take k out ++ text_bytes bs) (sym e) ∙ h
+    ∙ ap (λ (bs : List (List Bool)). take k out ++ text_bytes bs) (sym e) ∙ h
 
 -- the first block of a chain whose links are permuted words
 pub chain-next : (ks : List (List Bool)) (text : List ℕ) (n i p q before output : ℕ) → i < n
     → bits 64 p ≡ block_bits (take 8 (drop (8 * i) text)) → bits 64 q ≡ permute initial (bits 64 p)
     → unpermuted output ≡ cipher ks (unpermuted (bit_xor q before))
     → chain ks (unpermuted before) (rest_bits text n i) ≡ unpermuted output
-        ∷ chain ks (unpermuted output) (rest_bits text n (i + 1))
+    ∷ chain ks (unpermuted output) (rest_bits text n (i + 1))
 unfolding chain
 chain-next ks text n i p q before output lt hp hq ho =
     let b : List Bool = block_bits (take 8 (drop (8 * i) text)) in
@@ -67,7 +67,7 @@ chain-none ks c bs e = rw e refl
 pub unchain-next : (ks : List (List Bool)) (text : List ℕ) (n i p before output : ℕ) → i < n
     → bits 64 p ≡ block_bits (take 8 (drop (8 * i) text)) → bits 64 output ≡ decipher ks (bits 64 p)
     → unchain ks (bits 64 before) (rest_bits text n i) ≡ bits 64 (bit_xor output before)
-        ∷ unchain ks (bits 64 p) (rest_bits text n (i + 1))
+    ∷ unchain ks (bits 64 p) (rest_bits text n (i + 1))
 unfolding unchain
 unchain-next ks text n i p before output lt hp ho =
     let b : List Bool = block_bits (take 8 (drop (8 * i) text)) in
@@ -75,7 +75,7 @@ unchain-next ks text n i p before output lt hp ho =
     ap (λ (x : List Bool). xor_bits x (bits 64 before)) (sym ho) ∙ sym (bits-bit_xor 64 output before) in
     ap (unchain ks (bits 64 before)) (next_bits text n i lt)
     ∙ ap (λ (x : List Bool). xor_bits (decipher ks x) (bits 64 before) ∷ unchain ks x (rest_bits text n (i + 1)))
-        (sym hp)
+    (sym hp)
     ∙ ap (λ (x : List Bool). x ∷ unchain ks (bits 64 p) (rest_bits text n (i + 1))) is
 
 pub unchain-none : (ks : List (List Bool)) (c : List Bool) (bs : List (List Bool)) → bs ≡ [] → unchain ks c bs ≡ []

@@ -84,7 +84,7 @@ of_part : (table : List ℕ) (j k s : ℕ) → part_holds (drop k table) s 128 �
     → round_key (get_or table (128 * j + v) 0) ≡ chosen (v * 2 ^ s)
 of_part table j k s h e v lt =
     ap round_key (ap (λ (i : ℕ). get_or table (i + v) 0) (sym e) ∙ sym (get_or-drop k table v 0))
-        ∙ entry_is (drop k table) s 128 h v lt
+    ∙ entry_is (drop k table) s 128 h v lt
 
 pub low_place : (j v : ℕ) → j < 4 → v < 128 → round_key (get_or CHOSEN_LOW (128 * j + v) 0) ≡ chosen (v * 2 ^ (7 * j))
 low_place zero v h lt = of_part CHOSEN_LOW 0 0 0 part_0 refl v lt
@@ -149,7 +149,7 @@ turned_halves n b = rotate n (take 28 b) ++ rotate n (drop 28 b)
 linear_turned : Linear turned_word
 linear_turned =
     linear_sum (λ x. bit_and (x * 2 ^ 1 % 2 ^ 64) 0xffffffeffffffe) (λ x. bit_and (x / 2 ^ 27) 0x10000001)
-        (linear_shl_and 1 0xffffffeffffffe) (linear_shr_and 27 0x10000001)
+    (linear_shl_and 1 0xffffffeffffffe) (linear_shr_and 27 0x10000001)
 
 halves_xor_one : (x y : ℕ) → turned_halves 1 (xor_bits (bits 56 x) (bits 56 y))
     ≡ xor_bits (turned_halves 1 (bits 56 x)) (turned_halves 1 (bits 56 y))
@@ -172,14 +172,14 @@ two_agrees = refl
 pub turned_once : (x : ℕ) → x < 2 ^ 56 → bits 56 (turned_word x) ≡ turned_halves 1 (bits 56 x)
 turned_once x h =
     same_if_agree (λ x. bits 56 (turned_word x)) (λ x. turned_halves 1 (bits 56 x))
-        (additive_bits 56 turned_word linear_turned)
+    (additive_bits 56 turned_word linear_turned)
     (record { step = λ x y. ap (turned_halves 1) (bits-bit_xor 56 x y) ∙ halves_xor_one x y }) 56 one_agrees x h
 
 pub turned_twice : (x : ℕ) → x < 2 ^ 56 → bits 56 (turned_word (turned_word x)) ≡ turned_halves 2 (bits 56 x)
 turned_twice x h =
     same_if_agree (λ x. bits 56 (turned_word (turned_word x))) (λ x. turned_halves 2 (bits 56 x))
     (additive_bits 56 (λ x. turned_word (turned_word x))
-        (linear_then turned_word turned_word linear_turned linear_turned))
+    (linear_then turned_word turned_word linear_turned linear_turned))
     (record { step = λ x y. ap (turned_halves 2) (bits-bit_xor 56 x y) ∙ halves_xor_two x y }) 56 two_agrees x h
 
 -- each shift is 1 or 2
@@ -219,7 +219,7 @@ split_turned : (n x y : ℕ) → n ≤ 28 → bits 56 y ≡ turned_halves n (bit
 split_turned n x y h e =
     let half : length (take 28 (bits 56 x)) ≡ 28 = length-take-le 28 (bits 56 x) (omega (arith, length-bits 56 x)) in
     let first : length (rotate n (take 28 (bits 56 x))) ≡ 28 = length-rotate n (take 28 (bits 56 x)) (omega arith)
-        ∙ half in (
+    ∙ half in (
       ap (take 28) e ∙ take_at (rotate n (take 28 (bits 56 x))) (rotate n (drop 28 (bits 56 x))) 28 first,
       ap (drop 28) e ∙ drop_at (rotate n (take 28 (bits 56 x))) (rotate n (drop 28 (bits 56 x))) 28 first,
     )
@@ -230,7 +230,7 @@ pub next_key : (ks ns : List ℕ) (i x y k : ℕ) (all : List (List Bool)) → l
     → bits 56 y ≡ turned_halves (get_or ns i 0) (bits 56 x) → round_key k ≡ permute choice_2 (bits 56 y)
     → take i (map round_key ks) ++ round_keys (drop i ns) (take 28 (bits 56 x)) (drop 28 (bits 56 x)) ≡ all
     → take (i + 1) (map round_key (set ks i k))
-        ++ round_keys (drop (i + 1) ns) (take 28 (bits 56 y)) (drop 28 (bits 56 y)) ≡ all
+    ++ round_keys (drop (i + 1) ns) (take 28 (bits 56 y)) (drop 28 (bits 56 y)) ≡ all
 unfolding round_keys
 next_key ks ns i x y k all lk ln lt hn hy hk done =
     let n : ℕ = get_or ns i 0 in
@@ -238,13 +238,13 @@ next_key ks ns i x y k all lk ln lt hn hy hk done =
     let parts = split_turned n x y hn hy in
     let key : round_key k ≡ permute choice_2 (turned_halves n (bits 56 x)) = hk ∙ ap (permute choice_2) hy in
     let opened : drop i ns ≡ n ∷ drop (i + 1) ns = drop-cons ns i 0 (omega arith)
-        ∙ ap (λ (j : ℕ). n ∷ drop j ns) more in
+    ∙ ap (λ (j : ℕ). n ∷ drop j ns) more in
     let front = map-set ks i k (omega arith) in
     rw (front, append_assoc)
     (ap₂ (λ (z : List Bool) (zs : List (List Bool)). take i (map round_key ks) ++ z ∷ zs) key
-        (ap₂ (round_keys (drop (i + 1) ns)) parts.0 parts.1)
+    (ap₂ (round_keys (drop (i + 1) ns)) parts.0 parts.1)
     ∙ ap (λ (ms : List ℕ). take i (map round_key ks) ++ round_keys ms (take 28 (bits 56 x)) (drop 28 (bits 56 x)))
-        (sym opened) ∙ done)
+    (sym opened) ∙ done)
 
 pub all_keys : (ks ns : List ℕ) (i : ℕ) (c d : List Bool) (all : List (List Bool)) → length ks ≡ 16 → length ns ≡ 16
     → i ≡ 16
@@ -253,6 +253,6 @@ unfolding round_keys
 all_keys ks ns i c d all lk ln li h =
     let none : drop i ns ≡ [] = drop_all i ns (omega arith) in
     let whole : take i (map round_key ks) ≡ map round_key ks =
-        take_all i (map round_key ks) (omega (arith, length-map ks round_key)) in
+    take_all i (map round_key ks) (omega (arith, length-map ks round_key)) in
     sym whole ∙ sym (append-nil (take i (map round_key ks)))
-        ∙ ap (λ (ms : List ℕ). take i (map round_key ks) ++ round_keys ms c d) (sym none) ∙ h
+    ∙ ap (λ (ms : List ℕ). take i (map round_key ks) ++ round_keys ms c d) (sym none) ∙ h

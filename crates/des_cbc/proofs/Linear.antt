@@ -72,7 +72,7 @@ linear_exchanged k m =
     let up : Linear (λ x. bit_and (bit_xor x (x / 2 ^ k)) m * 2 ^ k % 2 ^ 64) =
     linear_then (λ x. bit_and (bit_xor x (x / 2 ^ k)) m) (λ x. x * 2 ^ k % 2 ^ 64) moved (linear_shl k 64) in
     linear_sum (λ x. bit_xor x (bit_and (bit_xor x (x / 2 ^ k)) m))
-        (λ x. bit_and (bit_xor x (x / 2 ^ k)) m * 2 ^ k % 2 ^ 64)
+    (λ x. bit_and (bit_xor x (x / 2 ^ k)) m * 2 ^ k % 2 ^ 64)
     (linear_sum (λ x. x) (λ x. bit_and (bit_xor x (x / 2 ^ k)) m) linear_same moved) up
 
 -- ---- their bits
@@ -85,5 +85,5 @@ additive_permute n t =
     record {
       step = λ x y.
           ap (permute t) (bits-bit_xor n x y) ∙ permute-xor_bits t (bits n x) (bits n y)
-              (length-bits n x ∙ sym (length-bits n y));
+          (length-bits n x ∙ sym (length-bits n y));
     }

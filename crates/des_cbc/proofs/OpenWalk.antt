@@ -19,9 +19,9 @@ written_bits old new i p len h =
     let end : 8 * (i + 1) ≡ 8 * i + 8 = omega arith in
     ap text_bits (ap (λ (k : ℕ). take k new) end ∙ h)
     ∙ text_bits-push i (take (8 * i) old) (block_bytes (bits 64 p)) (length-take-le (8 * i) old len)
-        (length-block_bytes (bits 64 p))
+    (length-block_bytes (bits 64 p))
     ∙ ap (λ (b : List Bool). text_bits (take (8 * i) old) ++ b ∷ [])
-        (block_bits-block_bytes (bits 64 p) (length-bits 64 p))
+    (block_bits-block_bytes (bits 64 p) (length-bits 64 p))
 
 last_output-push : (ks : List (List Bool)) (c : List Bool) (ps : List (List Bool)) (p : List Bool)
     → last_output ks c (ps ++ p ∷ []) ≡ cipher ks (xor_bits p (last_output ks c ps))
@@ -50,7 +50,7 @@ under_way-first backward check nonce text plain n h =
       blocks =
           ap (λ (bs : List (List Bool)). bs ++ unchain (reverse backward) (bits 64 nonce) (rest_bits text n 0)) none
           ∙ ap (unchain (reverse backward) (bits 64 nonce))
-              (all_bits text n (n - 0) (8 * 0) h (omega arith) (omega arith));
+          (all_bits text n (n - 0) (8 * 0) h (omega arith) (omega arith));
       checked = ap (check_of check (bits 64 nonce)) none;
     }
 
@@ -70,7 +70,7 @@ under_way-next backward check nonce text old new n i block before input output c
     record {
       blocks =
           ap (λ (bs : List (List Bool)). bs ++ unchain (reverse backward) (bits 64 block) (rest_bits text n (i + 1)))
-              more
+          more
           ∙ append_assoc (text_bits (take (8 * i) old)) (bits 64 p ∷ []) _
           ∙ ap (λ (bs : List (List Bool)). text_bits (take (8 * i) old) ++ bs) (sym next) ∙ h.blocks;
       checked =
@@ -103,16 +103,16 @@ unsealed_is backward check nonce text plain n i k block before input output chec
     let at = hb ∙ ap (λ (j : ℕ). block_bits (take 8 (drop j text))) hk in
     let next = unchain-next (reverse backward) text n i block before output (omega arith) at back in
     let whole : text_bits (take (8 * i) plain) ≡ text_bits plain =
-        ap text_bits (take_all (8 * i) plain (omega arith)) in
+    ap text_bits (take_all (8 * i) plain (omega arith)) in
     let check_is : bits 64 check_output ≡ check_of check (bits 64 nonce) (text_bits plain) = hc ∙ sym h.checked
-        ∙ ap (check_of check (bits 64 nonce)) whole in
+    ∙ ap (check_of check (bits 64 nonce)) whole in
     record {
       last = bits 64 p;
       blocks =
           sym h.blocks
           ∙ ap₂ (λ (ds bs : List (List Bool)). ds ++ bs) whole
           (next ∙ ap (λ (bs : List (List Bool)). bits 64 p ∷ unchain (reverse backward) (bits 64 block) bs)
-              (no_bits text n (i + 1) (sym hn)));
+          (no_bits text n (i + 1) (sym hn)));
       checked = (
         λ t. ap (bits 64) (ha.0 t) ∙ check_is,
         λ e. ha.1 (same_word p check_output small small' (e ∙ sym check_is)),

@@ -28,9 +28,9 @@ kept_agrees = refl
 kept_is : (x : ℕ) → x < 2 ^ 64 → bits 64 (kept x) ≡ filled (without_parity (bits 64 x))
 kept_is x h =
     same_if_agree (λ x. bits 64 (kept x)) (λ x. filled (without_parity (bits 64 x)))
-        (additive_bits 64 kept (linear_and 0xfefefefefefefefe))
+    (additive_bits 64 kept (linear_and 0xfefefefefefefefe))
     (record { step = λ x y. ap (λ (b : List Bool). filled (without_parity b)) (bits-bit_xor 64 x y) ∙ filled-xor x y })
-        64 kept_agrees x h
+    64 kept_agrees x h
 
 filled_again : (x : ℕ) → without_parity (filled (without_parity (bits 64 x))) ≡ without_parity (bits 64 x)
 unfolding filled without_parity bits
@@ -50,7 +50,7 @@ pub same_kept : (x y : ℕ) → x < 2 ^ 64 → y < 2 ^ 64 → without_parity (bi
 same_kept x y hx hy e =
     let numbers : kept x % 2 ^ 64 ≡ kept y % 2 ^ 64 =
     sym (number-bits 64 (kept x)) ∙ ap number (kept_is x hx ∙ ap filled e ∙ sym (kept_is y hy))
-        ∙ number-bits 64 (kept y) in
+    ∙ number-bits 64 (kept y) in
     let small : kept x < 2 ^ 64 = and_lt 64 x 0xfefefefefefefefe hx (lit< tt) in
     let other : kept y < 2 ^ 64 = and_lt 64 y 0xfefefefefefefefe hy (lit< tt) in
     omega arith

@@ -27,7 +27,7 @@ two_rounds : (k j : List Bool) (ks : List (List Bool)) (l r m n : ℕ) → bits 
 unfolding rounds
 two_rounds k j ks l r m n hm hn =
     ap (λ (h : Halves). rounds ks (round j h)) (one_round l r m k hm)
-        ∙ ap (rounds ks) (one_round r (bit_xor l m) n j hn)
+    ∙ ap (rounds ks) (one_round r (bit_xor l m) n j hn)
 
 next_key : (ks : List ℕ) (i : ℕ) → i < length ks
     → drop i (map round_key ks) ≡ round_key (get_or ks i 0) ∷ drop (i + 1) (map round_key ks)
@@ -42,7 +42,7 @@ pub forward : (ks : List ℕ) (i l r m n : ℕ) → length ks ≡ 16 → i < 8
     → bits 32 m ≡ cipher_function (bits 32 r) (round_key (get_or ks (2 * i) 0))
     → bits 32 n ≡ cipher_function (bits 32 (bit_xor l m)) (round_key (get_or ks (2 * i + 1) 0))
     → rounds (drop (2 * (i + 1)) (map round_key ks)) (halves (bit_xor l m) (bit_xor r n))
-        ≡ rounds (drop (2 * i) (map round_key ks)) (halves l r)
+    ≡ rounds (drop (2 * i) (map round_key ks)) (halves l r)
 forward ks i l r m n lk lt hm hn =
     let e = next_key ks (2 * i) (omega arith) in
     let f = next_key ks (2 * i + 1) (omega arith) in
@@ -64,18 +64,18 @@ input_is b y h =
     let second : drop 32 (permute initial b) ≡ bits 32 y =
     ap (drop 32) cut ∙ drop_at (bits 32 (y / 2 ^ 32)) (bits 32 y) 32 (length-bits 32 (y / 2 ^ 32)) in
     ap₂ (λ (l r : List Bool). let s : Halves = record { left = l; right = r } in s) (sym first)
-        (low_half y ∙ sym second)
+    (low_half y ∙ sym second)
 
 joined_halves : (l r : ℕ) → l < 2 ^ 32 → r < 2 ^ 32 → bits 64 (bit_or (r * 2 ^ 32 % 2 ^ 64) l) ≡ bits 32 r ++ bits 32 l
 joined_halves l r hl hr =
     let whole : r * 2 ^ 32 % 2 ^ 64 ≡ r * 2 ^ 32 = omega arith in
     let sum : bit_or (r * 2 ^ 32 % 2 ^ 64) l ≡ r * 2 ^ 32 + l = ap (λ (x : ℕ). bit_or x l) whole
-        ∙ or_shifted r 32 l hl in
+    ∙ or_shifted r 32 l hl in
     let high : (r * 2 ^ 32 + l) / 2 ^ 32 ≡ r = shr_high r 32 l hl in
     let low : (r * 2 ^ 32 + l) % 2 ^ 32 ≡ l = mod_low r 32 l hl in
     ap (bits 64) sum ∙ two_halves (r * 2 ^ 32 + l)
     ∙ ap₂ (λ (a b : List Bool). a ++ b) (ap (bits 32) high)
-        (sym (bits-mod 32 32 (r * 2 ^ 32 + l) (omega arith)) ∙ ap (bits 32) low)
+    (sym (bits-mod 32 32 (r * 2 ^ 32 + l) (omega arith)) ∙ ap (bits 32) low)
 
 no_rounds : (ks : List (List Bool)) (h : Halves) → length ks ≡ 0 → rounds ks h ≡ h
 unfolding rounds
@@ -86,7 +86,7 @@ no_rounds (k ∷ ks) h e = absurd (omega arith)
 pub output_is : (ks : List ℕ) (i : ℕ) (b : List Bool) (y l r : ℕ) → length ks ≡ 16 → i ≡ 8
     → bits 64 y ≡ permute initial b → l < 2 ^ 32 → r < 2 ^ 32
     → rounds (drop (2 * i) (map round_key ks)) (halves l r)
-        ≡ rounds (map round_key ks) (halves (y / 2 ^ 32) (bit_and y 0xffffffff))
+    ≡ rounds (map round_key ks) (halves (y / 2 ^ 32) (bit_and y 0xffffffff))
     → unpermuted (bit_or (r * 2 ^ 32 % 2 ^ 64) l) ≡ cipher (map round_key ks) b
 unfolding cipher
 output_is ks i b y l r lk hi hy hl hr e =

@@ -18,7 +18,7 @@ output_is : (ks : List (List Bool)) (b : List Bool) (p before output : ℕ) → 
     → cipher ks (xor_bits b (bits 64 before)) ≡ bits 64 output
 output_is ks b p before output hp ho =
     ap (λ (x : List Bool). cipher ks (xor_bits x (bits 64 before))) (sym hp)
-        ∙ ap (cipher ks) (sym (bits-bit_xor 64 p before)) ∙ sym ho
+    ∙ ap (cipher ks) (sym (bits-bit_xor 64 p before)) ∙ sym ho
 
 pub both-next : (main check : List (List Bool)) (text : List ℕ) (n i p before check_before output check_output : ℕ)
     → i < n

@@ -29,9 +29,9 @@ unfolding des_text
 sealed_is keys nonce plain first rest main check word h hf hr =
     ap₂ (λ (a b : List ℕ). a ++ b) hf
     (hr ∙ ap (λ (n : List Bool). text_bytes (sealed_blocks main check n (text_bits plain)))
-        (read_is word nonce h.word_is)
+    (read_is word nonce h.word_is)
     ∙ ap₂ (λ (m c : List (List Bool)). text_bytes (sealed_blocks m c (block_bits nonce) (text_bits plain))) h.main_is
-        h.check_is)
+    h.check_is)
 
 -- the sealed text's parts, and what its chain deciphers to
 pub record IsTakenBack (keys : KeyPair) (text first middle : List ℕ) (n : ℕ) (backward check : List (List Bool))
@@ -53,12 +53,15 @@ opens keys text first middle n backward check word answer h hm t =
     let u = h.unsealed in
     let main = reverse backward in
     let rest_blocks = sealed_if_checked main check (bits 64 word) (text_bits (drop 8 text)) (text_bits middle) u.last
-        (length-bits 64 word) (AreBlocks-text_bits (drop 8 text)) u.blocks (u.checked.0 t) in
+    (length-bits 64 word) (AreBlocks-text_bits (drop 8 text)) u.blocks (u.checked.0 t) in
     let rest = sym (text_bytes-text_bits (drop 8 text) (omega (arith, length-drop 8 text))
-        (AreBytes-drop 8 text h.bytes)) ∙ ap text_bytes rest_blocks in
+    (AreBytes-drop 8 text h.bytes)) ∙ ap text_bytes rest_blocks in
     record {
-      block = record { len = ap length h.first_is ∙ length-take-le 8 text (omega arith); bytes =
-          rw h.first_is (AreBytes-take 8 text h.bytes) };
+      block = record {
+        len = ap length h.first_is ∙ length-take-le 8 text (omega arith);
+        bytes =
+            rw h.first_is (AreBytes-take 8 text h.bytes);
+      };
       blocks = record { some = omega arith; whole = ap (λ (k : ℕ). k % 8) h.middle_len ∙ h.whole; bytes = hm };
       same = sym (take-append-drop 8 text) ∙ sealed_is keys first middle (take 8 text) (drop 8 text) main check word
           h.words (sym h.first_is) rest;
@@ -80,21 +83,21 @@ alone keys text first middle nonce body n backward check word answer h o =
     let p = des_parts keys text nonce body o in
     let nonces : first ≡ nonce = h.first_is ∙ p.nonce_is in
     let start : block_bits nonce ≡ bits 64 word = ap block_bits (sym nonces)
-        ∙ sym (read_is word first h.words.word_is) in
+    ∙ sym (read_is word first h.words.word_is) in
     let sealed : text_bits (drop 8 text) ≡ sealed_blocks main check (bits 64 word) (text_bits body) =
     p.blocks_are
     ∙ ap₂ (λ (m c : List (List Bool)). sealed_blocks m c (block_bits nonce) (text_bits body)) (sym h.words.main_is)
-        (sym h.words.check_is)
+    (sym h.words.check_is)
     ∙ ap (λ (b : List Bool). sealed_blocks main check b (text_bits body)) start in
     let same = checked_if_sealed main check (bits 64 word) (text_bits (drop 8 text)) (text_bits middle)
-        (text_bits body) u.last (length-bits 64 word) (AreBlocks-text_bits body) u.blocks sealed in
+    (text_bits body) u.last (length-bits 64 word) (AreBlocks-text_bits body) u.blocks sealed in
     record { nonce_is = nonces; blocks_are = same.0; answer_is = u.checked.1 same.1 }
 
 pub same_body : (middle body : List ℕ) (n : ℕ) → length middle ≡ n → n % 8 ≡ 0 → AreBytes middle → IsPlain body
     → text_bits middle ≡ text_bits body → middle ≡ body
 same_body middle body n len whole hm hb e =
     sym (text_bytes-text_bits middle (ap (λ (k : ℕ). k % 8) len ∙ whole) hm) ∙ ap text_bytes e
-        ∙ text_bytes-text_bits body hb.whole hb.bytes
+    ∙ text_bytes-text_bits body hb.whole hb.bytes
 
 pub taken_back : (keys : KeyPair) (text first middle rest : List ℕ) (n : ℕ) (main backward check : List (List Bool))
     (word : ℕ) (answer : Bool)
@@ -106,12 +109,14 @@ pub taken_back : (keys : KeyPair) (text first middle rest : List ℕ) (n : ℕ) 
     → IsTakenBack keys text first middle n backward check word answer
 taken_back keys text first middle rest n main backward check word answer hb some whole len hm hf hr e main_is check_is
     word_is u = record {
-  bytes = hb;
-  some = some;
-  whole = whole;
-  text_len = len;
-  middle_len = hm;
-  first_is = hf;
-  words = record { main_is = ap reverse e ∙ reverse-reverse main ∙ main_is; check_is = check_is; word_is = word_is };
-  unsealed = let P : List ℕ → Type 0 = λ t. IsUnsealed backward check (bits 64 word) t middle answer in subst P hr u;
-}
+      bytes = hb;
+      some = some;
+      whole = whole;
+      text_len = len;
+      middle_len = hm;
+      first_is = hf;
+      words =
+          record { main_is = ap reverse e ∙ reverse-reverse main ∙ main_is; check_is = check_is; word_is = word_is };
+      unsealed =
+          let P : List ℕ → Type 0 = λ t. IsUnsealed backward check (bits 64 word) t middle answer in subst P hr u;
+    }

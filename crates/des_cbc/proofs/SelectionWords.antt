@@ -47,13 +47,13 @@ additive_groups : Additive (λ r. groups (odd_groups r) (even_groups r))
 additive_groups = record {
   step = λ x y.
       ap₂ groups (linear_odd.step x y) (linear_even.step x y)
-          ∙ groups-xor (odd_groups x) (even_groups x) (odd_groups y) (even_groups y);
+      ∙ groups-xor (odd_groups x) (even_groups x) (odd_groups y) (even_groups y);
 }
 
 expansion_is : (r : ℕ) → r < 2 ^ 32 → groups (odd_groups r) (even_groups r) ≡ permute expansion (bits 32 r)
 expansion_is r h =
     same_if_agree (λ r. groups (odd_groups r) (even_groups r)) (λ r. permute expansion (bits 32 r)) additive_groups
-        (additive_permute 32 expansion) 32 expansion_agrees r h
+    (additive_permute 32 expansion) 32 expansion_agrees r h
 
 -- ---- the selection functions
 
@@ -114,7 +114,7 @@ of_part : (place k : ℕ) → k ≡ 64 * place → part_holds (drop k SELECTED) 
     → bits 32 (get_or SELECTED (64 * place + v) 0) ≡ placed place v
 of_part place k e h v lt =
     ap (bits 32) (ap (λ (j : ℕ). get_or SELECTED (j + v) 0) (sym e) ∙ sym (get_or-drop k SELECTED v 0))
-        ∙ entry_is (drop k SELECTED) place 64 h v lt
+    ∙ entry_is (drop k SELECTED) place 64 h v lt
 
 of_place : (place v : ℕ) → place < 8 → v < 64 → bits 32 (get_or SELECTED (64 * place + v) 0) ≡ placed place v
 of_place zero v h lt = of_part 0 0 refl part_0 v lt
@@ -134,7 +134,7 @@ selected_is place x h =
     rw low
     (of_place place (x % 2 ^ 6) h under
     ∙ ap (λ (b : List Bool). permute primitive (at_place place (select (selection place) b)))
-        (bits-mod 6 6 x (omega arith)))
+    (bits-mod 6 6 x (omega arith)))
 
 -- ---- the eight together
 
@@ -147,7 +147,7 @@ places_join : (n1 n2 n3 n4 n5 n6 n7 n8 : ℕ)
     (xor_bits (at_place 0 (bits 4 n1)) (at_place 1 (bits 4 n2))) (at_place 2 (bits 4 n3))) (at_place 3 (bits 4 n4)))
     (at_place 4 (bits 4 n5))) (at_place 5 (bits 4 n6))) (at_place 6 (bits 4 n7))) (at_place 7 (bits 4 n8))
     ≡ (bits 4 n1 ++ (bits 4 n2 ++ (bits 4 n3 ++ (bits 4 n4 ++ (bits 4 n5
-        ++ (bits 4 n6 ++ (bits 4 n7 ++ (bits 4 n8 ++ []))))))))
+    ++ (bits 4 n6 ++ (bits 4 n7 ++ (bits 4 n8 ++ []))))))))
 unfolding at_place bits xor_bits
 places_join n1 n2 n3 n4 n5 n6 n7 n8 = simp xor_bit-false
 
@@ -157,19 +157,19 @@ selects_join : (b1 b2 b3 b4 b5 b6 b7 b8 : List Bool)
     (at_place 3 (select select_4 b4))) (at_place 4 (select select_5 b5))) (at_place 5 (select select_6 b6)))
     (at_place 6 (select select_7 b7))) (at_place 7 (select select_8 b8))
     ≡ (select select_1 b1 ++ (select select_2 b2
-        ++ (select select_3 b3 ++ (select select_4 b4
-        ++ (select select_5 b5 ++ (select select_6 b6 ++ (select select_7 b7 ++ (select select_8 b8 ++ []))))))))
+    ++ (select select_3 b3 ++ (select select_4 b4
+    ++ (select select_5 b5 ++ (select select_6 b6 ++ (select select_7 b7 ++ (select select_8 b8 ++ []))))))))
 unfolding select
 selects_join b1 b2 b3 b4 b5 b6 b7 b8 = places_join _ _ _ _ _ _ _ _
 
 select_all-groups : (a b : ℕ) → select_all selections (groups a b)
     ≡ (select select_1 (bits 6 (a / 2 ^ 24)) ++
-        (select select_2 (bits 6 (b / 2 ^ 24)) ++
-        (select select_3 (bits 6 (a / 2 ^ 16)) ++
-        (select select_4 (bits 6 (b / 2 ^ 16)) ++
-        (select select_5 (bits 6 (a / 2 ^ 8)) ++
-        (select select_6 (bits 6 (b / 2 ^ 8)) ++
-        (select select_7 (bits 6 (a / 2 ^ 0)) ++ (select select_8 (bits 6 (b / 2 ^ 0)) ++ []))))))))
+    (select select_2 (bits 6 (b / 2 ^ 24)) ++
+    (select select_3 (bits 6 (a / 2 ^ 16)) ++
+    (select select_4 (bits 6 (b / 2 ^ 16)) ++
+    (select select_5 (bits 6 (a / 2 ^ 8)) ++
+    (select select_6 (bits 6 (b / 2 ^ 8)) ++
+    (select select_7 (bits 6 (a / 2 ^ 0)) ++ (select select_8 (bits 6 (b / 2 ^ 0)) ++ []))))))))
 unfolding select_all groups bits
 select_all-groups a b = refl
 
@@ -204,7 +204,7 @@ pub cipher_function_is : (r odd even v1 v2 v3 v4 v5 v6 v7 v8 : ℕ) → r < 2 ^ 
     → bits 32 v7 ≡ permute primitive (at_place 6 (select select_7 (bits 6 (bit_xor (odd_groups r) odd))))
     → bits 32 v8 ≡ permute primitive (at_place 7 (select select_8 (bits 6 (bit_xor (even_groups r) even))))
     → bits 32 (bit_xor (bit_xor (bit_xor (bit_xor (bit_xor (bit_xor (bit_xor (v1) (v2)) (v3)) (v4)) (v5)) (v6)) (v7))
-        (v8)) ≡ cipher_function (bits 32 r) (groups odd even)
+    (v8)) ≡ cipher_function (bits 32 r) (groups odd even)
 unfolding cipher_function
 cipher_function_is r odd even v1 v2 v3 v4 v5 v6 v7 v8 fits h1 h2 h3 h4 h5 h6 h7 h8 =
     let a : ℕ = bit_xor (odd_groups r) odd in
@@ -212,22 +212,22 @@ cipher_function_is r odd even v1 v2 v3 v4 v5 v6 v7 v8 fits h1 h2 h3 h4 h5 h6 h7 
     let g7 = h7 ∙ ap (λ (x : ℕ). permute primitive (at_place 6 (select select_7 (bits 6 x)))) (sym (div-one a)) in
     let g8 = h8 ∙ ap (λ (x : ℕ). permute primitive (at_place 7 (select select_8 (bits 6 x)))) (sym (div-one b)) in
     let t2 = both (v1) v2 _ _ h1 h2 (length-placed 0 select_1 (bits 6 (a / 2 ^ 24)) (omega arith))
-        (length-placed 1 select_2 (bits 6 (b / 2 ^ 24)) (omega arith)) in
+    (length-placed 1 select_2 (bits 6 (b / 2 ^ 24)) (omega arith)) in
     let t3 = both (bit_xor (v1) v2) v3 _ _ t2.0 h3 (t2.1)
-        (length-placed 2 select_3 (bits 6 (a / 2 ^ 16)) (omega arith)) in
+    (length-placed 2 select_3 (bits 6 (a / 2 ^ 16)) (omega arith)) in
     let t4 = both (bit_xor (bit_xor (v1) v2) v3) v4 _ _ t3.0 h4 (t3.1)
-        (length-placed 3 select_4 (bits 6 (b / 2 ^ 16)) (omega arith)) in
+    (length-placed 3 select_4 (bits 6 (b / 2 ^ 16)) (omega arith)) in
     let t5 = both (bit_xor (bit_xor (bit_xor (v1) v2) v3) v4) v5 _ _ t4.0 h5 (t4.1)
-        (length-placed 4 select_5 (bits 6 (a / 2 ^ 8)) (omega arith)) in
+    (length-placed 4 select_5 (bits 6 (a / 2 ^ 8)) (omega arith)) in
     let t6 = both (bit_xor (bit_xor (bit_xor (bit_xor (v1) v2) v3) v4) v5) v6 _ _ t5.0 h6 (t5.1)
-        (length-placed 5 select_6 (bits 6 (b / 2 ^ 8)) (omega arith)) in
+    (length-placed 5 select_6 (bits 6 (b / 2 ^ 8)) (omega arith)) in
     let t7 = both (bit_xor (bit_xor (bit_xor (bit_xor (bit_xor (v1) v2) v3) v4) v5) v6) v7 _ _ t6.0 g7 (t6.1)
-        (length-placed 6 select_7 (bits 6 (a / 2 ^ 0)) (omega arith)) in
+    (length-placed 6 select_7 (bits 6 (a / 2 ^ 0)) (omega arith)) in
     let t8 = both (bit_xor (bit_xor (bit_xor (bit_xor (bit_xor (bit_xor (v1) v2) v3) v4) v5) v6) v7) v8 _ _ t7.0 g8
-        (t7.1) (length-placed 7 select_8 (bits 6 (b / 2 ^ 0)) (omega arith)) in
+    (t7.1) (length-placed 7 select_8 (bits 6 (b / 2 ^ 0)) (omega arith)) in
     let joined = selects_join (bits 6 (a / 2 ^ 24)) (bits 6 (b / 2 ^ 24)) (bits 6 (a / 2 ^ 16)) (bits 6 (b / 2 ^ 16))
-        (bits 6 (a / 2 ^ 8)) (bits 6 (b / 2 ^ 8)) (bits 6 (a / 2 ^ 0)) (bits 6 (b / 2 ^ 0)) in
+    (bits 6 (a / 2 ^ 8)) (bits 6 (b / 2 ^ 8)) (bits 6 (a / 2 ^ 0)) (bits 6 (b / 2 ^ 0)) in
     t8.0
     ∙ ap (permute primitive) (joined ∙ sym (select_all-groups a b)
     ∙ ap (select_all selections) (groups-xor (odd_groups r) (even_groups r) odd even
-        ∙ ap (λ (e : List Bool). xor_bits e (groups odd even)) (expansion_is r fits)))
+    ∙ ap (λ (e : List Bool). xor_bits e (groups odd even)) (expansion_is r fits)))

@@ -26,7 +26,7 @@ unchain-chain ks c (p ∷ ps) hc hp =
     let mixed : length (xor_bits p c) ≡ 64 = length-xor_bits p c len ∙ hp.0 in
     ap₂ (λ (b : List Bool) (bs : List (List Bool)). b ∷ bs)
     (ap (λ (x : List Bool). xor_bits x c) (decipher-cipher ks (xor_bits p c) mixed)
-        ∙ xor_bits-twice p c len)
+    ∙ xor_bits-twice p c len)
     (unchain-chain ks (cipher ks (xor_bits p c)) ps (length-cipher ks (xor_bits p c)) hp.1)
 
 pub chain-unchain : (ks : List (List Bool)) (c : List Bool) (xs : List (List Bool)) → length c ≡ 64
@@ -36,7 +36,7 @@ chain-unchain ks c [] hc hx = refl
 chain-unchain ks c (x ∷ xs) hc hx =
     let len : length (decipher ks x) ≡ length c = length-decipher ks x ∙ sym hc in
     let here : cipher ks (xor_bits (xor_bits (decipher ks x) c) c) ≡ x =
-        ap (cipher ks) (xor_bits-twice (decipher ks x) c len) ∙ cipher-decipher ks x hx.0 in
+    ap (cipher ks) (xor_bits-twice (decipher ks x) c len) ∙ cipher-decipher ks x hx.0 in
     ap₂ (λ (b : List Bool) (bs : List (List Bool)). b ∷ bs) here
     (ap (λ (d : List Bool). chain ks d (unchain ks x xs)) here ∙ chain-unchain ks x xs hx.0 hx.1)
 
@@ -44,16 +44,20 @@ pub AreBlocks-chain : (ks : List (List Bool)) (c : List Bool) (ps : List (List B
     → AreBlocks (chain ks c ps)
 unfolding chain AreBlocks
 AreBlocks-chain ks c [] = tt
-AreBlocks-chain ks c (p ∷ ps) = (length-cipher ks (xor_bits p c),
-    AreBlocks-chain ks (cipher ks (xor_bits p c)) ps)
+AreBlocks-chain ks c (p ∷ ps) = (
+  length-cipher ks (xor_bits p c),
+  AreBlocks-chain ks (cipher ks (xor_bits p c)) ps,
+)
 
 pub AreBlocks-unchain : (ks : List (List Bool)) (c : List Bool) (xs : List (List Bool))
     → length c ≡ 64 → AreBlocks xs → AreBlocks (unchain ks c xs)
 unfolding unchain AreBlocks
 AreBlocks-unchain ks c [] hc hx = tt
-AreBlocks-unchain ks c (x ∷ xs) hc hx =
-    (length-xor_bits (decipher ks x) c (length-decipher ks x ∙ sym hc)
-        ∙ length-decipher ks x, AreBlocks-unchain ks x xs hx.0 hx.1)
+AreBlocks-unchain ks c (x ∷ xs) hc hx = (
+  length-xor_bits (decipher ks x) c (length-decipher ks x ∙ sym hc)
+      ∙ length-decipher ks x,
+  AreBlocks-unchain ks x xs hx.0 hx.1,
+)
 
 length-chain : (ks : List (List Bool)) (c : List Bool) (ps : List (List Bool))
     → length (chain ks c ps) ≡ length ps
@@ -68,10 +72,10 @@ pub decrypted_text-encrypted_text : (ks : List (List Bool)) (iv text : List ℕ)
 unfolding encrypted_text decrypted_text
 decrypted_text-encrypted_text ks iv text h k =
     ap (λ (bs : List (List Bool)). text_bytes (unchain ks (block_bits iv) bs))
-        (text_bits-text_bytes (chain ks (block_bits iv) (text_bits text))
-        (AreBlocks-chain ks (block_bits iv) (text_bits text)))
+    (text_bits-text_bytes (chain ks (block_bits iv) (text_bits text))
+    (AreBlocks-chain ks (block_bits iv) (text_bits text)))
     ∙ ap text_bytes (unchain-chain ks (block_bits iv) (text_bits text) (length-block_bits iv)
-        (AreBlocks-text_bits text))
+    (AreBlocks-text_bits text))
     ∙ text_bytes-text_bits text h k
 
 pub encrypted_text-decrypted_text : (ks : List (List Bool)) (iv text : List ℕ) → length text % 8 ≡ 0
@@ -79,11 +83,11 @@ pub encrypted_text-decrypted_text : (ks : List (List Bool)) (iv text : List ℕ)
 unfolding encrypted_text decrypted_text
 encrypted_text-decrypted_text ks iv text h k =
     ap (λ (bs : List (List Bool)). text_bytes (chain ks (block_bits iv) bs))
-        (text_bits-text_bytes (unchain ks (block_bits iv) (text_bits text))
-        (AreBlocks-unchain ks (block_bits iv) (text_bits text) (length-block_bits iv)
-        (AreBlocks-text_bits text)))
+    (text_bits-text_bytes (unchain ks (block_bits iv) (text_bits text))
+    (AreBlocks-unchain ks (block_bits iv) (text_bits text) (length-block_bits iv)
+    (AreBlocks-text_bits text)))
     ∙ ap text_bytes (chain-unchain ks (block_bits iv) (text_bits text) (length-block_bits iv)
-        (AreBlocks-text_bits text))
+    (AreBlocks-text_bits text))
     ∙ text_bytes-text_bits text h k
 
 -- ---- sealed blocks
@@ -103,7 +107,7 @@ pub length-sealed_blocks : (main check : List (List Bool)) (n : List Bool) (ps :
     → length (sealed_blocks main check n ps) ≡ length ps + 1
 length-sealed_blocks main check n ps =
     length-chain main n (ps ++ check_of check n ps ∷ [])
-        ∙ length-append ps (check_of check n ps ∷ [])
+    ∙ length-append ps (check_of check n ps ∷ [])
 
 -- the blocks before the last, and the last
 pub same_fronts : (ps qs : List (List Bool)) (x y : List Bool) → ps ++ x ∷ [] ≡ qs ++ y ∷ []
@@ -126,7 +130,7 @@ pub unchain-sealed_blocks : (main check : List (List Bool)) (n : List Bool) (ps 
 unfolding AreBlocks
 unchain-sealed_blocks main check n ps hn hp =
     unchain-chain main n (ps ++ check_of check n ps ∷ []) hn
-        (AreBlocks-append ps (check_of check n ps ∷ []) hp (length-check_of check n ps, tt))
+    (AreBlocks-append ps (check_of check n ps ∷ []) hp (length-check_of check n ps, tt))
 
 -- blocks whose last is the check block of the others are sealed
 pub sealed_if_checked : (main check : List (List Bool)) (n : List Bool) (xs ps : List (List Bool))
@@ -135,7 +139,7 @@ pub sealed_if_checked : (main check : List (List Bool)) (n : List Bool) (xs ps :
     → xs ≡ sealed_blocks main check n ps
 sealed_if_checked main check n xs ps x hn hx e k =
     sym (chain-unchain main n xs hn hx)
-        ∙ ap (chain main n) (e ∙ ap (λ (b : List Bool). ps ++ b ∷ []) k)
+    ∙ ap (chain main n) (e ∙ ap (λ (b : List Bool). ps ++ b ∷ []) k)
 
 -- and only they
 pub checked_if_sealed : (main check : List (List Bool)) (n : List Bool)
@@ -144,7 +148,7 @@ pub checked_if_sealed : (main check : List (List Bool)) (n : List Bool)
     × (x ≡ check_of check n ps)
 checked_if_sealed main check n xs ps qs x hn hq e h =
     let both : ps ++ x ∷ [] ≡ qs ++ check_of check n qs ∷ [] = sym e ∙ ap (unchain main n) h
-        ∙ unchain-sealed_blocks main check n qs hn hq in
+    ∙ unchain-sealed_blocks main check n qs hn hq in
     let same = same_fronts ps qs _ _ both in
     (same.0, same.1 ∙ ap (check_of check n) (sym same.0))
 
@@ -186,7 +190,7 @@ des_parts keys text nonce plain h =
     let check = schedule (block_bits keys.check) in
     let bs = sealed_blocks main check (block_bits nonce) (text_bits plain) in
     let rest : drop 8 text ≡ text_bytes bs = ap (drop 8) h.same
-        ∙ drop_at nonce (text_bytes bs) 8 h.block.len in
+    ∙ drop_at nonce (text_bytes bs) 8 h.block.len in
     record {
       nonce_is = ap (take 8) h.same ∙ take_at nonce (text_bytes bs) 8 h.block.len;
       blocks_are = ap text_bits rest ∙ text_bits-text_bytes bs
@@ -204,15 +208,17 @@ once keys text nonce plain nonce' plain' h k =
     let nonces : nonce ≡ nonce' = sym a.nonce_is ∙ b.nonce_is in
     let n = block_bits nonce in
     let opened = unchain-sealed_blocks main check n (text_bits plain) (length-block_bits nonce)
-        (AreBlocks-text_bits plain) in
+    (AreBlocks-text_bits plain) in
     let same = checked_if_sealed main check n (sealed_blocks main check n (text_bits plain))
-        (text_bits plain) (text_bits plain') _ (length-block_bits nonce)
-        (AreBlocks-text_bits plain') opened
+    (text_bits plain) (text_bits plain') _ (length-block_bits nonce)
+    (AreBlocks-text_bits plain') opened
     (sym a.blocks_are ∙ b.blocks_are ∙ ap
-        (λ (m : List ℕ). sealed_blocks main check (block_bits m) (text_bits plain')) (sym nonces))
-        in
-    (nonces, sym (text_bytes-text_bits plain h.blocks.whole h.blocks.bytes) ∙ ap text_bytes same.0
-        ∙ text_bytes-text_bits plain' k.blocks.whole k.blocks.bytes)
+    (λ (m : List ℕ). sealed_blocks main check (block_bits m) (text_bits plain')) (sym nonces))
+    in (
+      nonces,
+      sym (text_bytes-text_bits plain h.blocks.whole h.blocks.bytes) ∙ ap text_bytes same.0
+          ∙ text_bytes-text_bits plain' k.blocks.whole k.blocks.bytes,
+    )
 
 pub des_laws : IsSealing des_text
 des_laws = record {

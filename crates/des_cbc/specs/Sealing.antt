@@ -24,4 +24,4 @@ sealed_blocks main check nonce ps = chain main nonce (ps ++ check_of check nonce
 unfoldable pub des_text : KeyPair → List ℕ → List ℕ → List ℕ
 des_text keys nonce plain =
     nonce ++ text_bytes (sealed_blocks (schedule (block_bits keys.main))
-        (schedule (block_bits keys.check)) (block_bits nonce) (text_bits plain))
+    (schedule (block_bits keys.check)) (block_bits nonce) (text_bits plain))

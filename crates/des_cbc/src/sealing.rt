@@ -22,7 +22,7 @@ fn seal_blocks(main: &RoundKeys, check: &RoundKeys, nonce: u64, plain: &[u8], ou
     ensures { let main_keys = map round_key main.now in
         let check_keys = map round_key check.now in
         out.new ≡ text_bytes (sealed_blocks main_keys check_keys (bits 64 nonce)
-            (text_bits plain.now)) }
+        (text_bits plain.now)) }
 {
     let mut before = nonce;
     let mut check_before = encipher(check, nonce);

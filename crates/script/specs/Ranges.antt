@@ -62,7 +62,7 @@ HasEventRanges (line.Carry stream message at) =
 HasEventRanges (line.Forge at bytes) = HasPartyRange at × (length bytes ≡ 128) × AreBytes bytes
 HasEventRanges (line.Tamper stream message piece at edits) =
     HasStreamRanges stream × IsMessageNumber message × IsPieceNumber piece × HasPartyRange at
-        × AreEdits edits
+    × AreEdits edits
 
 -- a version is counted from 1, and a byte is changed
 abbrev pub HasActionRanges : StoreWords → Type 0

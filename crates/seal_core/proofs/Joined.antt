@@ -24,13 +24,19 @@ pub joined : (out a b d : List ℕ) (n k j : ℕ) → length out ≡ n + 16 → 
 joined out a b d n k j ho ha hb hd hk hj =
     let x : List ℕ = a ++ drop 8 out in
     let len : length x ≡ n + 16 = length-append a (drop 8 out) ∙ ap₂ (λ (p q : ℕ). p + q) ha (length-drop 8 out)
-        ∙ omega arith in
+    ∙ omega arith in
     let front : take (8 + n) (put_mid 8 k x b) ≡ a ++ b =
     take-put_mid 8 k x b (8 + n) (omega arith) (omega arith)
-        ∙ ap (λ (s : List ℕ). s ++ b) (take_at a (drop 8 out) 8 ha) in
+    ∙ ap (λ (s : List ℕ). s ++ b) (take_at a (drop 8 out) 8 ha) in
     let front_len : 8 + n ≤ length (put_mid 8 k x b) =
-        omega (arith, length-append a b, length-append (take 8 x) b, length-append (take 8 x) (b ++ drop k (drop 8 x)),
-        length-append b (drop k (drop 8 x)), length-take-le 8 x (omega arith)) in
+    omega (
+      arith,
+      length-append a b,
+      length-append (take 8 x) b,
+      length-append (take 8 x) (b ++ drop k (drop 8 x)),
+      length-append b (drop k (drop 8 x)),
+      length-take-le 8 x (omega arith),
+    ) in
     last_part (8 + n) j (put_mid 8 k x b) (a ++ b) d front (omega arith)
 
 -- a text whose last part is the check block of the others
@@ -42,10 +48,13 @@ pub clear_opens : (keys : KeyPair) (text nonce body last : List ℕ) (n : ℕ) �
 unfolding clear_text
 clear_opens keys text nonce body last n hb some whole len hn hp hl e =
     let body_len : length body ≡ n = ap length hp
-        ∙ length-take-le n (drop 8 text) (omega (arith, length-drop 8 text)) in
+    ∙ length-take-le n (drop 8 text) (omega (arith, length-drop 8 text)) in
     record {
-      block = record { len = ap length hn ∙ length-take-le 8 text (omega arith); bytes =
-          rw hn (AreBytes-take 8 text hb) };
+      block = record {
+        len = ap length hn ∙ length-take-le 8 text (omega arith);
+        bytes =
+            rw hn (AreBytes-take 8 text hb);
+      };
       blocks = record {
         some = omega arith;
         whole = ap (λ (k : ℕ). k % 8) body_len ∙ whole;
@@ -63,6 +72,9 @@ clear_alone keys text first middle last nonce body n len hf hm hl h =
     let size : length body ≡ n = omega (arith, ap length h.same ∙ length-clear_text keys nonce body h.block.len) in
     let p = clear_parts keys text nonce body h in
     let f : first ≡ nonce = hf ∙ p.first_is in
-    let m : middle ≡ body = hm ∙ ap (λ (k : ℕ). take k (drop 8 text)) (sym size) ∙ p.middle_is in
-    (f, m, hl ∙ ap (λ (k : ℕ). drop (8 + k) text) (sym size) ∙ p.last_is
-        ∙ ap₂ (clear_check keys.check) (sym f) (sym m))
+    let m : middle ≡ body = hm ∙ ap (λ (k : ℕ). take k (drop 8 text)) (sym size) ∙ p.middle_is in (
+      f,
+      m,
+      hl ∙ ap (λ (k : ℕ). drop (8 + k) text) (sym size) ∙ p.last_is
+          ∙ ap₂ (clear_check keys.check) (sym f) (sym m),
+    )

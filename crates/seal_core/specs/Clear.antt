@@ -8,7 +8,7 @@ use Rattle.seal_core.specs.Blocks.{blocks, block_word}
 unfoldable pub clear_check : List ℕ → List ℕ → List ℕ → List ℕ
 clear_check key nonce plain =
     to_be_bytes w64 (fold bit_xor (bit_xor (block_word key) (block_word nonce))
-        (map block_word (blocks plain)))
+    (map block_word (blocks plain)))
 
 -- the clear text of a nonce and a plain text
 unfoldable pub clear_text : KeyPair → List ℕ → List ℕ → List ℕ

@@ -24,7 +24,7 @@ pub clear_parts : (keys : KeyPair) (text nonce plain : List ℕ)
 unfolding clear_text
 clear_parts keys text nonce plain h =
     parts text nonce plain (clear_check keys.check nonce plain) (length plain) h.same h.block.len
-        (length-clear_check keys.check nonce plain)
+    (length-clear_check keys.check nonce plain)
     (ap length h.same ∙ length-clear_text keys nonce plain h.block.len)
 
 bytes : (keys : KeyPair) (nonce plain : List ℕ) → IsBlock nonce → IsPlain plain
@@ -38,12 +38,17 @@ once : (keys : KeyPair) (text nonce plain nonce' plain' : List ℕ)
     → (nonce ≡ nonce') × (plain ≡ plain')
 once keys text nonce plain nonce' plain' h k =
     let lens : length plain ≡ length plain' =
-    omega (arith, sym (ap length h.same ∙ length-clear_text keys nonce plain h.block.len)
-        ∙ ap length k.same ∙ length-clear_text keys nonce' plain' k.block.len) in
+    omega (
+      arith,
+      sym (ap length h.same ∙ length-clear_text keys nonce plain h.block.len)
+          ∙ ap length k.same ∙ length-clear_text keys nonce' plain' k.block.len,
+    ) in
     let a = clear_parts keys text nonce plain h in
-    let b = clear_parts keys text nonce' plain' k in
-    (sym a.first_is ∙ b.first_is, sym a.middle_is ∙ ap (λ (n : ℕ). take n (drop 8 text)) lens
-        ∙ b.middle_is)
+    let b = clear_parts keys text nonce' plain' k in (
+      sym a.first_is ∙ b.first_is,
+      sym a.middle_is ∙ ap (λ (n : ℕ). take n (drop 8 text)) lens
+          ∙ b.middle_is,
+    )
 
 pub clear_laws : IsSealing clear_text
 clear_laws = record {

@@ -14,7 +14,7 @@ parts_of : (first middle last : List ℕ) (n : ℕ) → length first ≡ 8 → l
     → HasParts (first ++ (middle ++ last)) first middle last n
 parts_of first middle last n hf hm =
     let rest : drop 8 (first ++ (middle ++ last)) ≡ middle ++ last =
-        drop_at first (middle ++ last) 8 hf in
+    drop_at first (middle ++ last) 8 hf in
     record {
       first_is = take_at first (middle ++ last) 8 hf;
       middle_is = ap (take n) rest ∙ take_at middle last n hm;
@@ -29,9 +29,9 @@ pub parts : (text first middle last : List ℕ) (n : ℕ) → text ≡ first ++ 
 parts text first middle last n e hf hl h =
     let whole : text ≡ first ++ (middle ++ last) = e ∙ append_assoc first middle last in
     let sum : length text ≡ 8 + (length middle + 8) = ap length whole
-        ∙ length-append first (middle ++ last)
-        ∙ ap₂ (λ (a b : ℕ). a + b) hf (length-append middle last
-        ∙ ap (λ (k : ℕ). length middle + k) hl) in
+    ∙ length-append first (middle ++ last)
+    ∙ ap₂ (λ (a b : ℕ). a + b) hf (length-append middle last
+    ∙ ap (λ (k : ℕ). length middle + k) hl) in
     rw whole (parts_of first middle last n hf (omega arith))
 
 append_below : (xs ys : List ℕ) → AreBytes xs → AreBytes ys → (i : ℕ) → get_or (xs ++ ys) i 0 < 256
@@ -78,5 +78,5 @@ pub whole_of : (text first middle last : List ℕ) (n : ℕ) → first ≡ take 
 whole_of text first middle last n hf hm hl =
     let rest : drop (8 + n) text ≡ drop n (drop 8 text) = sym (drop-drop n 8 text) in
     let tail : take n (drop 8 text) ++ drop (8 + n) text ≡ drop 8 text =
-        ap (λ (t : List ℕ). take n (drop 8 text) ++ t) rest ∙ take-append-drop n (drop 8 text) in
+    ap (λ (t : List ℕ). take n (drop 8 text) ++ t) rest ∙ take-append-drop n (drop 8 text) in
     rw (hf, hm, hl, append_assoc, tail) (sym (take-append-drop 8 text))

@@ -20,7 +20,7 @@ bits-mod zero k x h = refl
 bits-mod (suc n) k x h =
     ap₂ (λ (b : ℕ) (bs : List Bool). nat_eq b 1 ∷ bs)
     (sym (bit_at_cat_low (x / 2 ^ k) k (x % 2 ^ k) n (omega arith))
-        ∙ ap (λ (y : ℕ). bit_at y n) (omega arith))
+    ∙ ap (λ (y : ℕ). bit_at y n) (omega arith))
     (bits-mod n k x (omega arith))
 
 -- ---- exclusive or
@@ -43,7 +43,7 @@ xor_bits-twice [] b h = refl
 xor_bits-twice (x ∷ a) [] h = absurd (omega arith)
 xor_bits-twice (x ∷ a) (y ∷ b) h =
     ap₂ (λ (c : Bool) (cs : List Bool). c ∷ cs) (xor_bit-twice x y)
-        (xor_bits-twice a b (omega arith))
+    (xor_bits-twice a b (omega arith))
 
 -- ---- numbers
 
@@ -58,9 +58,9 @@ number-bits zero x = sym (mod-one x)
 number-bits (suc n) x =
     let top : cond (nat_eq (x / 2 ^ n % 2) 1) (2 ^ length (bits n x)) 0 ≡ x / 2 ^ n % 2 * 2 ^ n =
     bit_worth (x / 2 ^ n % 2) (2 ^ length (bits n x)) (bit_at-lt x n)
-        ∙ ap (λ (k : ℕ). x / 2 ^ n % 2 * 2 ^ k) (length-bits n x) in
+    ∙ ap (λ (k : ℕ). x / 2 ^ n % 2 * 2 ^ k) (length-bits n x) in
     ap₂ (λ (a b : ℕ). a + b) top (number-bits n x) ∙ sym (mod-pow-add x 1 n)
-        ∙ ap (λ (k : ℕ). x % 2 ^ k) (omega arith)
+    ∙ ap (λ (k : ℕ). x % 2 ^ k) (omega arith)
 
 pub number-below : (bs : List Bool) → number bs < 2 ^ length bs
 unfolding number
@@ -79,7 +79,7 @@ unfolding bits
 first_bit bs b rest y e =
     ap₂ (λ (c : Bool) (cs : List Bool). c ∷ cs)
     (ap (λ (n : ℕ). nat_eq (n % 2) 1) (ap (λ (n : ℕ). n / 2 ^ length bs) e
-        ∙ shr_high b (length bs) (number bs) (number-below bs)))
+    ∙ shr_high b (length bs) (number bs) (number-below bs)))
     (ap (bits (length bs)) e ∙ low_bits (length bs) (number bs) b (number-below bs) ∙ rest)
 
 pub bits-number : (bs : List Bool) → bits (length bs) (number bs) ≡ bs
@@ -115,7 +115,7 @@ unfolding block_bits block_bytes
 block_bits-block_bytes bs h =
     let fits : number bs < 2 ^ 64 = let f = number-below bs in rw h at f in
     ap (bits 64) (from_be_bytes-to_be_bytes_8 (number bs) fits)
-        ∙ ap (λ (n : ℕ). bits n (number bs)) (sym h) ∙ bits-number bs
+    ∙ ap (λ (n : ℕ). bits n (number bs)) (sym h) ∙ bits-number bs
 
 pub block_bytes-block_bits : (b : List ℕ) → IsBlock b → block_bytes (block_bits b) ≡ b
 unfolding block_bits block_bytes

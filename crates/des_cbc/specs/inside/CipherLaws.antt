@@ -40,8 +40,11 @@ as_long h k d = d.left ∙ sym (length-cipher_function h.right k)
 
 AreHalves-round : (k : List Bool) (h : Halves) → AreHalves h → AreHalves (round k h)
 AreHalves-round k h d =
-    record { left = d.right; right = length-xor_bits h.left (cipher_function h.right k)
-        (as_long h k d) ∙ d.left }
+    record {
+      left = d.right;
+      right = length-xor_bits h.left (cipher_function h.right k)
+          (as_long h k d) ∙ d.left;
+    }
 
 AreHalves-rounds : (ks : List (List Bool)) (h : Halves) → AreHalves h → AreHalves (rounds ks h)
 unfolding rounds
@@ -97,7 +100,7 @@ permute-permute [] s b h = refl
 permute-permute (p ∷ t) s b h =
     ap₂ (λ (x : Bool) (xs : List Bool). x ∷ xs)
     (get_or-permute s b (p - 1) (ltb-true _ _ (and_left _ _ h)))
-        (permute-permute t s b (and_right _ _ h))
+    (permute-permute t s b (and_right _ _ h))
 
 permute-range : (n k : ℕ) (b : List Bool) → k + n ≤ length b
     → permute (range_with_len (k + 1) n) b ≡ take n (drop k b)
@@ -110,7 +113,7 @@ permute-range (suc n) k b h =
     drop-cons b k false (omega arith) ∙ ap (λ (j : ℕ). get_or b k false ∷ drop j b) next in
     rw opened
     (ap₂ (λ (x : Bool) (xs : List Bool). x ∷ xs) (ap (λ (j : ℕ). get_or b j false) place)
-        (permute-range n (k + 1) b (omega arith)))
+    (permute-range n (k + 1) b (omega arith)))
 
 permute_all : (b : List Bool) → length b ≡ 64 → permute (range_with_len 1 64) b ≡ b
 permute_all b h = permute-range 64 0 b (omega arith) ∙ take_all 64 b (omega arith)
@@ -139,12 +142,12 @@ AreHalves-input b = record {
 input-output : (h : Halves) → AreHalves h → input_halves (output_block h) ≡ exchanged_halves h
 input-output h d =
     let whole : length (h.right ++ h.left) ≡ 64 =
-        omega (arith, length-append h.right h.left, d.left, d.right) in
+    omega (arith, length-append h.right h.left, d.left, d.right) in
     let same = initial-inverse_initial (h.right ++ h.left) whole in
     let first : take 32 (permute initial (output_block h)) ≡ h.right = ap (take 32) same
-        ∙ take_at h.right h.left 32 d.right in
+    ∙ take_at h.right h.left 32 d.right in
     let last : drop 32 (permute initial (output_block h)) ≡ h.left = ap (drop 32) same
-        ∙ drop_at h.right h.left 32 d.right in
+    ∙ drop_at h.right h.left 32 d.right in
     ap₂ (λ (l r : List Bool). let s : Halves = record { left = l; right = r } in s) first last
 
 output-input : (b : List Bool) → length b ≡ 64
@@ -163,22 +166,22 @@ pub decipher-cipher : (ks : List (List Bool)) (b : List Bool) → length b ≡ 6
 unfolding cipher
 decipher-cipher ks b h =
     ap (λ (x : Halves). output_block (rounds (reverse ks) x))
-        (input-output (rounds ks (input_halves b))
-        (AreHalves-rounds ks (input_halves b) (AreHalves-input b)))
+    (input-output (rounds ks (input_halves b))
+    (AreHalves-rounds ks (input_halves b) (AreHalves-input b)))
     ∙ ap output_block (rounds_back ks (input_halves b) (AreHalves-input b)) ∙ output-input b h
 
 pub cipher-decipher : (ks : List (List Bool)) (b : List Bool) → length b ≡ 64
     → cipher ks (decipher ks b) ≡ b
 cipher-decipher ks b h =
     ap (λ (js : List (List Bool)). cipher js (decipher ks b)) (sym (reverse-reverse ks))
-        ∙ decipher-cipher (reverse ks) b h
+    ∙ decipher-cipher (reverse ks) b h
 
 pub decrypted-encrypted : (ks : List (List Bool)) (b : List ℕ) → IsBlock b
     → decrypted ks (encrypted ks b) ≡ b
 unfolding encrypted decrypted
 decrypted-encrypted ks b h =
     ap (λ (x : List Bool). block_bytes (decipher ks x))
-        (block_bits-block_bytes (cipher ks (block_bits b)) (length-cipher ks (block_bits b)))
+    (block_bits-block_bytes (cipher ks (block_bits b)) (length-cipher ks (block_bits b)))
     ∙ ap block_bytes (decipher-cipher ks (block_bits b) (length-block_bits b))
     ∙ block_bytes-block_bits b h
 
@@ -187,7 +190,7 @@ pub encrypted-decrypted : (ks : List (List Bool)) (b : List ℕ) → IsBlock b
 unfolding encrypted decrypted
 encrypted-decrypted ks b h =
     ap (λ (x : List Bool). block_bytes (cipher ks x))
-        (block_bits-block_bytes (decipher ks (block_bits b))
-        (length-cipher (reverse ks) (block_bits b)))
+    (block_bits-block_bytes (decipher ks (block_bits b))
+    (length-cipher (reverse ks) (block_bits b)))
     ∙ ap block_bytes (cipher-decipher ks (block_bits b) (length-block_bits b))
     ∙ block_bytes-block_bits b h

@@ -34,4 +34,4 @@ choice_2_has_shape =
 unfoldable pub selections_have_shape : Bool
 selections_have_shape =
     list_all (λ table. list_all (λ row. holds_each_once (range_with_len 0 16)
-        (take 16 (drop (16 * row) table))) (range_with_len 0 4)) selections
+    (take 16 (drop (16 * row) table))) (range_with_len 0 4)) selections

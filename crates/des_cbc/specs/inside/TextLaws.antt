@@ -30,8 +30,12 @@ pub length-text_bytes : (bs : List (List Bool)) → length (text_bytes bs) ≡ 8
 unfolding text_bytes
 length-text_bytes [] = refl
 length-text_bytes (b ∷ bs) =
-    omega (arith, length-append (block_bytes b) (text_bytes bs), length-block_bytes b,
-        length-text_bytes bs)
+    omega (
+      arith,
+      length-append (block_bytes b) (text_bytes bs),
+      length-block_bytes b,
+      length-text_bytes bs,
+    )
 
 AreBytes-block_bytes : (b : List Bool) → AreBytes (block_bytes b)
 unfolding block_bytes
@@ -66,7 +70,7 @@ unfolding first_blocks
 text_bits-block b text n hb ht =
     counted (b ++ text) (suc n) (omega (arith, length-append b text))
     ∙ ap₂ (λ (x y : List ℕ). block_bits x ∷ map block_bits (first_blocks n y)) (take_at b text 8 hb)
-        (drop_at b text 8 hb)
+    (drop_at b text 8 hb)
     ∙ ap (λ (bs : List (List Bool)). block_bits b ∷ bs) (sym (counted text n ht))
 
 pub no_blocks : text_bits [] ≡ []
@@ -78,16 +82,16 @@ unfolding first_blocks
 only_block b h =
     counted b 1 (omega arith)
     ∙ ap₂ (λ (x : List ℕ) (bs : List (List Bool)). bs ++ block_bits x ∷ [])
-        (take_all 8 b (omega arith)) (sym no_blocks)
+    (take_all 8 b (omega arith)) (sym no_blocks)
 
 pub text_bits-text_bytes : (bs : List (List Bool)) → AreBlocks bs → text_bits (text_bytes bs) ≡ bs
 unfolding text_bytes AreBlocks
 text_bits-text_bytes [] h = no_blocks
 text_bits-text_bytes (b ∷ bs) h =
     text_bits-block (block_bytes b) (text_bytes bs) (length bs) (length-block_bytes b)
-        (length-text_bytes bs)
+    (length-text_bytes bs)
     ∙ ap₂ (λ (x : List Bool) (xs : List (List Bool)). x ∷ xs) (block_bits-block_bytes b h.0)
-        (text_bits-text_bytes bs h.1)
+    (text_bits-text_bytes bs h.1)
 
 text_bytes-counted : (n : ℕ) (text : List ℕ) → length text ≡ 8 * n → AreBytes text
     → text_bytes (map block_bits (first_blocks n text)) ≡ text
@@ -99,7 +103,7 @@ text_bytes-counted (suc n) text h k =
     ap₂ (λ (a b : List ℕ). a ++ b)
     (block_bytes-block_bits (take 8 text) (record { len = first; bytes = AreBytes-take 8 text k }))
     (text_bytes-counted n (drop 8 text) (omega (arith, length-drop 8 text))
-        (AreBytes-drop 8 text k))
+    (AreBytes-drop 8 text k))
     ∙ take-append-drop 8 text
 
 pub text_bytes-text_bits : (text : List ℕ) → length text % 8 ≡ 0 → AreBytes text
@@ -107,7 +111,7 @@ pub text_bytes-text_bits : (text : List ℕ) → length text % 8 ≡ 0 → AreBy
 text_bytes-text_bits text h k =
     let count : length text ≡ 8 * (length text / 8) = omega arith in
     ap text_bytes (counted text (length text / 8) count)
-        ∙ text_bytes-counted (length text / 8) text count k
+    ∙ text_bytes-counted (length text / 8) text count k
 
 -- a block after a text
 pub text_bits-push : (n : ℕ) (xs b : List ℕ) → length xs ≡ 8 * n → length b ≡ 8
@@ -120,8 +124,8 @@ text_bits-push (suc n) xs b hx hb =
     let whole : xs ≡ take 8 xs ++ drop 8 xs = sym (take-append-drop 8 xs) in
     ap text_bits (ap (λ (t : List ℕ). t ++ b) whole ∙ append_assoc (take 8 xs) (drop 8 xs) b)
     ∙ text_bits-block (take 8 xs) (drop 8 xs ++ b) (n + 1) first
-        (omega (arith, length-append (drop 8 xs) b))
+    (omega (arith, length-append (drop 8 xs) b))
     ∙ ap (λ (bs : List (List Bool)). block_bits (take 8 xs) ∷ bs)
-        (text_bits-push n (drop 8 xs) b rest hb)
+    (text_bits-push n (drop 8 xs) b rest hb)
     ∙ ap (λ (bs : List (List Bool)). bs ++ block_bits b ∷ [])
-        (sym (text_bits-block (take 8 xs) (drop 8 xs) n first rest) ∙ ap text_bits (sym whole))
+    (sym (text_bits-block (take 8 xs) (drop 8 xs) n first rest) ∙ ap text_bits (sym whole))

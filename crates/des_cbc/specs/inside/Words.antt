@@ -10,18 +10,18 @@ use Rattle.des_cbc.specs.Sealing.{check_of}
 abbrev pub exchanged : ℕ → ℕ → ℕ → ℕ
 exchanged k mask x =
     let moved = bit_and (bit_xor x (x / 2 ^ k)) mask in
-        bit_xor (bit_xor x moved) (moved * 2 ^ k % 2 ^ 64)
+    bit_xor (bit_xor x moved) (moved * 2 ^ k % 2 ^ 64)
 
 -- the initial permutation and its inverse
 abbrev pub initial_word : ℕ → ℕ
 initial_word x =
     exchanged 33 0x55555555 (exchanged 24 0xff00ff00
-        (exchanged 30 0xcccccccc (exchanged 48 0xffff (exchanged 36 0x0f0f0f0f x))))
+    (exchanged 30 0xcccccccc (exchanged 48 0xffff (exchanged 36 0x0f0f0f0f x))))
 
 abbrev pub final_word : ℕ → ℕ
 final_word x =
     exchanged 36 0x0f0f0f0f (exchanged 48 0xffff
-        (exchanged 30 0xcccccccc (exchanged 24 0xff00ff00 (exchanged 33 0x55555555 x))))
+    (exchanged 30 0xcccccccc (exchanged 24 0xff00ff00 (exchanged 33 0x55555555 x))))
 
 -- the block of a word that still has the inverse of the initial permutation ahead
 abbrev pub unpermuted : ℕ → List Bool
@@ -39,9 +39,9 @@ even_groups r = bit_xor (r * 2 ^ 1 % 2 ^ 32) (r / 2 ^ 31)
 unfoldable pub groups : ℕ → ℕ → List Bool
 groups odd even =
     bits 6 (odd / 2 ^ 24) ++ (bits 6 (even / 2 ^ 24)
-        ++ (bits 6 (odd / 2 ^ 16) ++ (bits 6 (even / 2 ^ 16)
+    ++ (bits 6 (odd / 2 ^ 16) ++ (bits 6 (even / 2 ^ 16)
     ++ (bits 6 (odd / 2 ^ 8) ++ (bits 6 (even / 2 ^ 8)
-        ++ (bits 6 (odd / 2 ^ 0) ++ bits 6 (even / 2 ^ 0)))))))
+    ++ (bits 6 (odd / 2 ^ 0) ++ bits 6 (even / 2 ^ 0)))))))
 
 -- a round key in a word
 abbrev pub round_key : ℕ → List Bool
@@ -65,8 +65,8 @@ columns x =
 abbrev pub gathered : ℕ → ℕ
 gathered t =
     bit_xor (bit_xor (bit_xor (bit_xor (bit_and (t / 2 ^ 8) 0xfffffff0000000)
-        (bit_and (t * 2 ^ 12 % 2 ^ 64) 0xff00000)) (bit_and (t / 2 ^ 4) 0xff000))
-        (bit_and (t / 2 ^ 20) 0xff0)) (bit_and (t / 2 ^ 32) 0xf)
+    (bit_and (t * 2 ^ 12 % 2 ^ 64) 0xff00000)) (bit_and (t / 2 ^ 4) 0xff000))
+    (bit_and (t / 2 ^ 20) 0xff0)) (bit_and (t / 2 ^ 32) 0xf)
 
 abbrev pub choice_word : ℕ → ℕ
 choice_word x = gathered (columns x)

@@ -18,9 +18,9 @@ loop-i-preserved c =
     let sealed = c.args.sealed.now in
     let n = length sealed / 8 in
     let back = c.encipher.ensures ∙ ap (λ (ks : List (List Bool)). cipher ks (bits 64 c.load-block.result))
-        (sym (reverse-reverse js)) in
+    (sym (reverse-reverse js)) in
     let next = unchain-next (reverse js) sealed n c.loop-i.i c.load-block.result c.loop-i.before c.encipher.result
-        (omega arith) c.load-block.ensures back in
+    (omega arith) c.load-block.ensures back in
     written_more c.loop-i.out c.store.new.out _ c.loop-i.i _ _ _ c.store.ensures c.loop-i.invariant next
 
 deciphered : (c : goal.After-loop-i) → c.loop-i.out ≡ decrypted_text c.args.schedule.now c.args.iv c.args.sealed.now
@@ -30,12 +30,12 @@ deciphered c =
     let sealed = c.args.sealed.now in
     let n = length sealed / 8 in
     let same : reverse js ≡ c.args.schedule.now = ap reverse c.reversed-keys.ensures ∙ reverse-reverse _
-        ∙ c.keys.ensures in
+    ∙ c.keys.ensures in
     written_all c.loop-i.out _ (8 * c.loop-i.i) _ (omega arith) c.loop-i.invariant
-        (unchain-none (reverse js) _ _ (no_bits sealed n c.loop-i.i (omega arith)))
+    (unchain-none (reverse js) _ _ (no_bits sealed n c.loop-i.i (omega arith)))
     ∙ ap₂ (λ (b : List Bool) (bs : List (List Bool)). text_bytes (unchain (reverse js) b bs))
-        (read_is _ _ c.from_be_bytes-before.ensures)
-        (all_bits sealed n (n - 0) (8 * 0) refl (omega arith) (omega arith))
+    (read_is _ _ c.from_be_bytes-before.ensures)
+    (all_bits sealed n (n - 0) (8 * 0) refl (omega arith) (omega arith))
     ∙ ap (λ (ks : List (List Bool)). text_bytes (unchain ks (block_bits c.args.iv) (text_bits sealed))) same
 
 pub returns-clause-deciphered : goal.returns-clause-deciphered
@@ -45,4 +45,4 @@ pub returns-clause-undone : goal.returns-clause-undone
 returns-clause-undone c =
     ap (encrypted_text c.args.schedule.now c.args.iv) (deciphered c)
     ∙ encrypted_text-decrypted_text c.args.schedule.now c.args.iv c.args.sealed.now c.requires.whole
-        (record { below = λ i. omega (arith, c.type_inv.sealed i) })
+    (record { below = λ i. omega (arith, c.type_inv.sealed i) })

@@ -17,10 +17,10 @@ loop-i-preserved c =
     let plain = c.args.plain.now in
     let n = length plain / 8 in
     let next = chain-next ks plain n c.loop-i.i c.load.result c.initial_permutation-block.result c.loop-i.before
-        c.encipher_permuted-before.result (omega arith) c.load.ensures c.initial_permutation-block.ensures
-        c.encipher_permuted-before.ensures in
+    c.encipher_permuted-before.result (omega arith) c.load.ensures c.initial_permutation-block.ensures
+    c.encipher_permuted-before.ensures in
     let stored = c.store.ensures ∙ ap (λ (b : List Bool). take (8 * c.loop-i.i) c.loop-i.out ++ block_bytes b)
-        c.inverse_permutation.ensures in
+    c.inverse_permutation.ensures in
     written_more c.loop-i.out c.store.new.out _ c.loop-i.i _ _ _ stored c.loop-i.invariant next
 
 enciphered : (c : goal.After-loop-i) → c.loop-i.out ≡ encrypted_text c.args.schedule.now c.args.iv c.args.plain.now
@@ -30,13 +30,13 @@ enciphered c =
     let plain = c.args.plain.now in
     let n = length plain / 8 in
     let start = unpermuted_is _ c.initial_permutation-before.result c.initial_permutation-before.ensures
-        ∙ read_is _ c.args.iv c.from_be_bytes.ensures in
+    ∙ read_is _ c.args.iv c.from_be_bytes.ensures in
     written_all c.loop-i.out _ (8 * c.loop-i.i) _ (omega arith) c.loop-i.invariant
-        (chain-none ks _ _ (no_bits plain n c.loop-i.i (omega arith)))
+    (chain-none ks _ _ (no_bits plain n c.loop-i.i (omega arith)))
     ∙ ap₂ (λ (b : List Bool) (bs : List (List Bool)). text_bytes (chain ks b bs)) start
-        (all_bits plain n (n - 0) (8 * 0) refl (omega arith) (omega arith))
+    (all_bits plain n (n - 0) (8 * 0) refl (omega arith) (omega arith))
     ∙ ap (λ (js : List (List Bool)). text_bytes (chain js (block_bits c.args.iv) (text_bits plain)))
-        c.keys-keys.ensures
+    c.keys-keys.ensures
 
 pub returns-clause-enciphered : goal.returns-clause-enciphered
 returns-clause-enciphered c = enciphered c
@@ -45,4 +45,4 @@ pub returns-clause-undone : goal.returns-clause-undone
 returns-clause-undone c =
     ap (decrypted_text c.args.schedule.now c.args.iv) (enciphered c)
     ∙ decrypted_text-encrypted_text c.args.schedule.now c.args.iv c.args.plain.now c.requires.whole
-        (record { below = λ i. omega (arith, c.type_inv.plain i) })
+    (record { below = λ i. omega (arith, c.type_inv.plain i) })

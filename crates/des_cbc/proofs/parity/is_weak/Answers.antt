@@ -27,5 +27,5 @@ returns c =
     let key = c.args.key.now in
     some_or_none (SameKey key) weak_keys c.any.result
     (cases_from_any _ _ _ (SameKey key) (λ w. SameKey key w → ⊥) c.any.ensures.ran
-        (YieldsList-from_slice weak_keys c.iter.ensures.rest) (λ x q k. search (rules, tests))
-        (λ x q k. search (rules, tests)))
+    (YieldsList-from_slice weak_keys c.iter.ensures.rest) (λ x q k. search (rules, tests))
+    (λ x q k. search (rules, tests)))

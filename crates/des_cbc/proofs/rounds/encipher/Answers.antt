@@ -8,4 +8,4 @@ pub returns : goal.returns
 returns c =
     c.inverse_permutation.ensures ∙ c.encipher_permuted.ensures
     ∙ ap (cipher (map round_key c.args.keys.now))
-        (unpermuted_is c.args.block c.initial_permutation.result c.initial_permutation.ensures)
+    (unpermuted_is c.args.block c.initial_permutation.result c.initial_permutation.ensures)

@@ -6,8 +6,8 @@ pub loop-i-preserved : goal.loop-i-preserved
 loop-i-preserved c =
     let sixteen : length c.args.keys.now ≡ 16 = search rules in
     forward c.args.keys.now c.loop-i.i c.loop-i.left c.loop-i.right c.cipher_function-left.result
-        c.cipher_function-right.result sixteen (omega arith) c.cipher_function-left.ensures
-        c.cipher_function-right.ensures
+    c.cipher_function-right.result sixteen (omega arith) c.cipher_function-left.ensures
+    c.cipher_function-right.ensures
     ∙ c.loop-i.invariant
 
 pub returns : goal.returns

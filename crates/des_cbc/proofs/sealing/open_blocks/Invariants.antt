@@ -6,4 +6,4 @@ use Rattle.des_cbc.proofs.sealing.open_blocks.Given as goal
 abbrev pub invariant-loop-i : goal.invariant-loop-i
 invariant-loop-i l =
     IsUnderWay (map round_key l.backward) (map round_key l.check) l.nonce l.text l.plain (length l.text / 8) l.i
-        l.before l.check_input
+    l.before l.check_input

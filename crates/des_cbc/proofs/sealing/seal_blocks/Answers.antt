@@ -16,7 +16,7 @@ loop-i-preserved c =
     let n = length plain / 8 in
     let two = c.encipher_two-output in
     let next = both-next main check plain n c.loop-i.i c.load-block.result c.loop-i.before c.loop-i.check_before
-        two.result.0 two.result.1 (omega arith) c.load-block.ensures two.ensures.first two.ensures.second in
+    two.result.0 two.result.1 (omega arith) c.load-block.ensures two.ensures.first two.ensures.second in
     written_more c.loop-i.out c.store.new.out _ c.loop-i.i _ _ _ c.store.ensures c.loop-i.invariant next
 
 pub returns : goal.returns
@@ -26,9 +26,9 @@ returns c =
     let plain = c.args.plain.now in
     let n = length plain / 8 in
     let last = both-last main check c.loop-i.before c.loop-i.check_before c.encipher.result
-        (rest_bits plain n c.loop-i.i) (no_bits plain n c.loop-i.i (omega arith)) c.encipher.ensures in
+    (rest_bits plain n c.loop-i.i) (no_bits plain n c.loop-i.i (omega arith)) c.encipher.ensures in
     sealed_whole c.loop-i.out c.store-2.new.out _ (8 * c.loop-i.i) (length plain) _ _ (omega arith) (omega arith)
-        c.store-2.ensures c.loop-i.invariant last
+    c.store-2.ensures c.loop-i.invariant last
     ∙ ap₂ (λ (x : List Bool) (bs : List (List Bool)). text_bytes (both_chains main check (bits 64 c.args.nonce) x bs))
-        c.encipher-check_before.ensures
+    c.encipher-check_before.ensures
     (all_bits plain n (n - 0) (8 * 0) refl (omega arith) (omega arith))

@@ -11,6 +11,6 @@ invariant-loop-i l =
     let check = map round_key l.check in
     let n = length l.plain / 8 in
     take (8 * l.i) l.out ++ text_bytes (both_chains main check (bits 64 l.before) (bits 64 l.check_before)
-        (rest_bits l.plain n l.i))
+    (rest_bits l.plain n l.i))
     ≡ text_bytes (both_chains main check (bits 64 l.initial.before) (bits 64 l.initial.check_before)
-        (rest_bits l.plain n 0))
+    (rest_bits l.plain n 0))

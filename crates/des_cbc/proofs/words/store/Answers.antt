@@ -9,5 +9,5 @@ returns c =
     let is = c.copy_from_slice.ensures.after ∙ c.to_be_bytes.ensures in
     let eight : length written ≡ 8 = ap length is in
     take-put_mid c.args.at (c.args.at + 8 - c.args.at) c.args.out.now written (c.args.at + 8) (omega arith)
-        (omega arith)
+    (omega arith)
     ∙ ap (λ (b : List ℕ). take c.args.at c.args.out.now ++ b) (written_is c.args.block written (omega arith) is)

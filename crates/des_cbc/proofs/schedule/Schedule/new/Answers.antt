@@ -35,7 +35,7 @@ unfolding schedule block_bits shifts
 returns c =
     let i = c.loop-i.invariant in
     let same : bits 56 c.permuted_choice_1-halves.result
-        ≡ permute choice_1 (bits 64 (from_be_bytes w64 c.args.key.now)) =
+    ≡ permute choice_1 (bits 64 (from_be_bytes w64 c.args.key.now)) =
     c.permuted_choice_1-halves.ensures.same ∙ ap (λ (n : ℕ). permute choice_1 (bits 64 n)) c.from_be_bytes.ensures in
     all_keys c.loop-i.keys shifts c.loop-i.i _ _ _ i.sixteen refl (omega arith) i.done
     ∙ ap (λ (b : List Bool). round_keys shifts (take 28 b) (drop 28 b)) same

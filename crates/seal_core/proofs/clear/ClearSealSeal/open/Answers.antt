@@ -12,9 +12,9 @@ returns-then-eq-clause-opened c =
     let n = length c.args.plain.now in
     let same = (slice_eq-Decides Decides-eqb _ _ _ c.eq.ensures).0 c.if-eq.true in
     clear_opens c.args.keys.now text _ _ _ n (record { below = λ i. omega (arith, c.type_inv.sealed i) })
-        c.requires.some c.requires.whole c.requires.room
+    c.requires.some c.requires.whole c.requires.room
     c.copy_from_slice.ensures.after (c.copy_from_slice-2.ensures.after
-        ∙ ap (λ (k : ℕ). take k (drop 8 text)) (omega arith))
+    ∙ ap (λ (k : ℕ). take k (drop 8 text)) (omega arith))
     (take_rest text (8 + n)) (same ∙ c.check_block-check.ensures)
 
 pub returns-then-eq-clause-alone : goal.returns-then-eq-clause-alone
@@ -24,7 +24,7 @@ returns-then-eq-clause-alone c =
     let n = length c.args.plain.now in
     let is = clear_alone c.args.keys.now text _ _ _ nonce body n c.requires.room
     c.copy_from_slice.ensures.after (c.copy_from_slice-2.ensures.after
-        ∙ ap (λ (k : ℕ). take k (drop 8 text)) (omega arith)) refl h in
+    ∙ ap (λ (k : ℕ). take k (drop 8 text)) (omega arith)) refl h in
     (ap (λ (b : List ℕ). Some b) is.0, is.1)
 
 pub returns-clause-alone : goal.returns-clause-alone
@@ -34,6 +34,6 @@ returns-clause-alone c =
     let n = length c.args.plain.now in
     let is = clear_alone c.args.keys.now text _ _ _ nonce body n c.requires.room
     c.copy_from_slice.ensures.after (c.copy_from_slice-2.ensures.after
-        ∙ ap (λ (k : ℕ). take k (drop 8 text)) (omega arith)) (take_rest text (8 + n)) h in
+    ∙ ap (λ (k : ℕ). take k (drop 8 text)) (omega arith)) (take_rest text (8 + n)) h in
     let same = (slice_eq-Decides Decides-eqb _ _ _ c.eq.ensures).1 (is.2 ∙ sym c.check_block-check.ensures) in
     absurd (false≢true (sym c.if-eq.false ∙ same))

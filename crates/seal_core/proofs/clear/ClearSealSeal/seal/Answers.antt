@@ -13,5 +13,5 @@ returns c =
     let body = c.copy_from_slice-2.ensures.after in
     let last = c.copy_from_slice-3.ensures.after ∙ c.check_block.ensures in
     joined c.args.out.now _ _ _ n _ _ c.requires.room (ap length first ∙ eight) (ap length body)
-        (ap length last ∙ length-clear_check _ _ _) (omega arith) refl
+    (ap length last ∙ length-clear_check _ _ _) (omega arith) refl
     ∙ ap₂ (λ (s t : List ℕ). s ++ t) (ap₂ (λ (s t : List ℕ). s ++ t) first body) last
