@@ -1,6 +1,7 @@
+use crate::asked::AskedCall;
 use crate::body::Body;
 use crate::edits::Edits;
-use file_calls::Call;
+use crate::forged::ForgedFrame;
 use levels::Party;
 
 /// An ordered pair of parties. Its messages are numbered from 0 by the sends that were accepted.
@@ -22,7 +23,7 @@ pub enum Event {
     /// A host sends a call to the manager unit of its level.
     Ask {
         from: u8,
-        call: Call,
+        call: AskedCall,
     },
     /// The network hands one piece of a message to a unit. Pieces are numbered from 0 to 63.
     Arrive {
@@ -40,7 +41,7 @@ pub enum Event {
     /// The network hands a unit bytes of its own.
     Forge {
         at: Party,
-        bytes: [u8; 128],
+        frame: ForgedFrame,
     },
     /// The network hands a unit the frame of one piece of a message with some bytes changed.
     Tamper {

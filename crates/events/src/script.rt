@@ -1,5 +1,4 @@
 ghost use Rattle.std.specs.Prelude.{◌≡◌, ℕ, ◌<◌, ◌≤◌, [], length, true, ◌&&◌, IsTrue};
-ghost use Rattle.seal_core.specs.Blocks.{AreBytes};
 ghost use Rattle.levels.specs.Kept.{IsComplete};
 ghost use Rattle.levels.specs.Rosters.{partition_of};
 ghost use Rattle.file_calls.specs.Spelling.{is_call};
@@ -101,20 +100,6 @@ fn is_handed(roster: &Roster, stream: Stream, at: Party) -> bool
     is_known(roster, stream.from) && is_known(roster, stream.to) && is_known(roster, at)
 }
 
-fn bytes_of(bytes: &[u8]) -> &[u8]
-    ensures { AreBytes bytes.now }
-{
-    bytes
-}
-
-/// The bytes of a frame.
-fn frame_bytes(bytes: &[u8; 128]) -> &[u8]
-    ensures len { length bytes.now ≡ 128 }
-    ensures bytes { AreBytes bytes.now }
-{
-    bytes_of(bytes)
-}
-
 /// Whether the roster has all parties and levels that an event names.
 fn is_named(roster: &Roster, event: &Event) -> bool
     ensures named { result ≡ is_named roster.now event.now }
@@ -126,7 +111,7 @@ fn is_named(roster: &Roster, event: &Event) -> bool
             is_known(roster, Party::Host(*from)) && is_known(roster, *to)
         }
         Event::Ask { from, call } => {
-            is_known(roster, Party::Host(*from)) && is_call_named(roster, call)
+            is_known(roster, Party::Host(*from)) && is_call_named(roster, call.call())
         }
         Event::Arrive {
             stream,
@@ -145,8 +130,8 @@ fn is_named(roster: &Roster, event: &Event) -> bool
             let _message = *message;
             is_handed(roster, *stream, *at)
         }
-        Event::Forge { at, bytes } => {
-            let _bytes = frame_bytes(bytes);
+        Event::Forge { at, frame } => {
+            let _bytes = frame.bytes();
             is_known(roster, *at)
         }
         Event::Tamper {

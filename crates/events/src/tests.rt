@@ -1,7 +1,9 @@
 ghost use Rattle.std.specs.Prelude.{◌≤◌};
 ghost use Rattle.events.specs.Scripts.{HasBlockNumber};
 
-use crate::{Body, Edits, Event, Script, ScriptStop, Stream, push_hex, push_number};
+use crate::{
+    AskedCall, Body, Edits, Event, ForgedFrame, Script, ScriptStop, Stream, push_hex, push_number,
+};
 use file_calls::{Call, Content, Name};
 use levels::{Level, LevelName, Partition, Party, Roster, Sealing};
 use seal_core::KeyPair;
@@ -152,9 +154,10 @@ fn content(alloc: Global) -> Result<Content, Fail> {
     Ok(Content::new(alloc, b"ab")?.ok_or("no content")?)
 }
 
-fn ask(script: &mut Script, from: u8, call: Call) -> Result<(), ScriptStop>
+fn ask(alloc: Global, script: &mut Script, from: u8, call: Call) -> Result<(), ScriptStop>
     requires { HasBlockNumber call }
 {
+    let call = AskedCall::new(alloc, call).map_err(|_| ScriptStop::OutOfMemory)?;
     script.add_event(Event::Ask { from, call })
 }
 
@@ -169,10 +172,13 @@ fn names_levels_of_the_roster(rt: HostRuntime) -> Result<(), Fail> {
             level,
             name: name(alloc)?,
         };
-        assert!(rt; ask(&mut script, from, get) == answer, "get {from} {level}");
+        assert!(rt;
+            ask(alloc, &mut script, from, get) == answer,
+            "get {from} {level}"
+        );
         let list = Call::List { level };
         assert!(rt;
-            ask(&mut script, from, list) == answer,
+            ask(alloc, &mut script, from, list) == answer,
             "list {from} {level}"
         );
         let block = Call::GetBlock {
@@ -181,7 +187,7 @@ fn names_levels_of_the_roster(rt: HostRuntime) -> Result<(), Fail> {
             block: 63,
         };
         assert!(rt;
-            ask(&mut script, from, block) == answer,
+            ask(alloc, &mut script, from, block) == answer,
             "block {from} {level}"
         );
     }
@@ -191,14 +197,20 @@ fn names_levels_of_the_roster(rt: HostRuntime) -> Result<(), Fail> {
             name: name(alloc)?,
             content: content(alloc)?,
         };
-        assert!(rt; ask(&mut script, from, put) == answer, "put {from}");
+        assert!(rt; ask(alloc, &mut script, from, put) == answer, "put {from}");
         let append = Call::Append {
             name: name(alloc)?,
             content: content(alloc)?,
         };
-        assert!(rt; ask(&mut script, from, append) == answer, "append {from}");
+        assert!(rt;
+            ask(alloc, &mut script, from, append) == answer,
+            "append {from}"
+        );
         let remove = Call::Remove { name: name(alloc)? };
-        assert!(rt; ask(&mut script, from, remove) == answer, "remove {from}");
+        assert!(rt;
+            ask(alloc, &mut script, from, remove) == answer,
+            "remove {from}"
+        );
     }
     assert_eq!(rt; script.events().len(), 9);
     Ok(())
@@ -214,7 +226,7 @@ fn holds_forged_and_changed_frames(rt: HostRuntime) -> Result<(), Fail> {
         let answer = if known { Ok(()) } else { Err(ScriptStop::Name) };
         let forge = Event::Forge {
             at,
-            bytes: [0x44; 128],
+            frame: ForgedFrame::new(rt.alloc(), &[0x44; 128])?,
         };
         assert!(rt; script.add_event(forge) == answer, "forged at {at:?}");
         let tamper = Event::Tamper {
@@ -227,8 +239,8 @@ fn holds_forged_and_changed_frames(rt: HostRuntime) -> Result<(), Fail> {
         assert!(rt; script.add_event(tamper) == answer, "changed at {at:?}");
     }
     match script.events() {
-        [Event::Forge { bytes, .. }, Event::Tamper { edits, .. }] => {
-            assert!(rt; bytes == &[0x44; 128]);
+        [Event::Forge { frame, .. }, Event::Tamper { edits, .. }] => {
+            assert!(rt; frame.bytes() == &[0x44; 128]);
             assert!(rt; edits.pairs() == [(32, 1), (40, 1)].as_slice());
         }
         _ => assert!(rt; false, "other events"),
@@ -363,7 +375,7 @@ fn lines_of_a_des_script(rt: HostRuntime) -> Result<(), Fail> {
     let at = Party::Manager(Partition(0));
     script.add_event(Event::Forge {
         at,
-        bytes: [0; 128],
+        frame: ForgedFrame::new(rt.alloc(), &[0; 128])?,
     })?;
     assert!(rt; script.events().len() == 1);
     assert_eq!(rt; script.line_of(0), 7);
@@ -419,5 +431,13 @@ fn words(rt: HostRuntime) -> Result<(), Fail> {
     }
     let expected = b"0 9 10 250 100000 4294967295 - 00 6869 0af0ff ".as_slice();
     assert!(rt; text.as_slice() == expected);
+    Ok(())
+}
+
+/// Neither a call nor a forged frame makes events wide.
+#[test]
+fn events_are_narrow(rt: HostRuntime) -> Result<(), Fail> {
+    let size = size_of::<Event>();
+    assert_eq!(rt; size, 32);
     Ok(())
 }

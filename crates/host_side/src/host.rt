@@ -102,6 +102,18 @@ impl HostSide {
         })
     }
 
+    pub fn address(&self) -> u8
+        ensures { result ≡ self.now.address }
+    {
+        self.address
+    }
+
+    pub fn partition(&self) -> u8
+        ensures { result ≡ self.now.partition }
+    {
+        self.partition
+    }
+
     /// Numbers a message to a partner. Ok has its number.
     pub fn send(&mut self, to: u8, message: &[u8]) -> Result<u32, SendRefused>
         ensures answer { result ≡ send_answer (next_of self.old to) (length message.now) }

@@ -82,7 +82,7 @@ payload_bytes body i bytes =
     (AreBytes-take 88 (drop (88 * i) body) (AreBytes-drop (88 * i) body bytes))
     (zero_bytes (88 - length (take 88 (drop (88 * i) body))))
 
-is_piece : (from to p j : ℕ) (body : List ℕ) (i : ℕ) → from < 256 → to < 256 → p < 256
+pub is_piece : (from to p j : ℕ) (body : List ℕ) (i : ℕ) → from < 256 → to < 256 → p < 256
     → IsSmallMessage j body → i < pieces body → IsPiece (piece_of from to p j body i)
 is_piece from to p j body i lf lt lp fits within =
     let c = counts (length body) i fits.short within in
@@ -116,9 +116,9 @@ row_there a (first ∷ rows) n row is all = elim (bool_cases (first.address == a
   | inr other ↦ row_there a rows n row (rw other at is) all.1
 ]
 
-known_host : (roster : RosterView) (a : ℕ) (o : Option HostRow) → host_row roster a ≡ o → IsRoster roster
+pub known_host : (roster : RosterView) (a : ℕ) (o : Option HostRow) → host_row roster a ≡ o → IsRoster roster
     → (p : Partition) → option_map (λ (row : HostRow). row.partition) o ≡ Some p
-    → (1 ≤ a) × (a < 256) × (p.0 < 256)
+    → (1 ≤ a) × (a ≤ 250) × (p.0 < 16)
 known_host roster a None there is p known = cc
 known_host roster a (Some row) there is p known =
     let t = row_there a roster.hosts (length roster.levels) row there is.hosts in
@@ -130,8 +130,8 @@ known_host roster a (Some row) there is p known =
     t.1.partition in let room : length roster.levels ≤ 16 = is.level_room in
     (omega arith, omega arith, omega arith)
 
-known_manager : (roster : RosterView) (q p : Partition) → IsRoster roster
-    → partition_of roster (Manager q) ≡ Some p → (q ≡ p) × (p.0 < 256)
+pub known_manager : (roster : RosterView) (q p : Partition) → IsRoster roster
+    → partition_of roster (Manager q) ≡ Some p → (q ≡ p) × (p.0 < 16)
 known_manager roster q p is known = elim (bool_cases (nat_lt q.0 (length roster.levels))) [
   | inl inside ↦ (let t = rw inside at known in let same : q ≡ p = cc in
       let lt : q.0 < length roster.levels = grind (arith, nat_tests) in let room : length roster.levels ≤ 16 =
@@ -146,14 +146,15 @@ pub record IsKnown (roster : RosterView) (s : Party) (p : Partition) : Type 0 wh
   pub number : p.0 < 256
   pub address : address_of s < 256
 
-known : (roster : RosterView) (s : Party) (p : Partition) → IsRoster roster → partition_of roster s ≡ Some p
+pub known : (roster : RosterView) (s : Party) (p : Partition) → IsRoster roster → partition_of roster s ≡ Some p
     → IsKnown roster s p
 known roster (Host a) p is there = let t = known_host roster a (host_row roster a) refl is p there in
-    record { partition = there; number = t.2; address = t.1 }
+    record { partition = there; number = omega (arith, t); address = omega (arith, t) }
 known roster (Manager q) p is there =
-    record { partition = there; number = (known_manager roster q p is there).1; address = omega arith }
+    let t = known_manager roster q p is there in
+    record { partition = there; number = omega (arith, t); address = omega arith }
 
-one_party : (roster : RosterView) (s s' : Party) (p p' : Partition) → IsRoster roster
+pub one_party : (roster : RosterView) (s s' : Party) (p p' : Partition) → IsRoster roster
     → partition_of roster s ≡ Some p → partition_of roster s' ≡ Some p' → p.0 ≡ p'.0
     → address_of s ≡ address_of s' → s ≡ s'
 one_party roster (Host a) (Host b) p p' is there there' number address = ap Host address
@@ -167,12 +168,12 @@ one_party roster (Manager q) (Host a) p p' is there there' number address = let 
     (known_host roster a (host_row roster a) refl is p' there').0 in absurd (omega (arith, least))
 
 -- partners have one partition
-record InOne (roster : RosterView) (s u : Party) : Type 0 where
-  p : Partition
-  q : Partition
-  there : partition_of roster s ≡ Some p
-  there' : partition_of roster u ≡ Some q
-  same : p.0 ≡ q.0
+pub record InOne (roster : RosterView) (s u : Party) : Type 0 where
+  pub p : Partition
+  pub q : Partition
+  pub there : partition_of roster s ≡ Some p
+  pub there' : partition_of roster u ≡ Some q
+  pub same : p.0 ≡ q.0
 
 in_one_of : (roster : RosterView) (s u : Party) (o o' : Option Partition) → partition_of roster s ≡ o
     → partition_of roster u ≡ o' → is_one_partition o o' ≡ true → InOne roster s u
@@ -181,12 +182,12 @@ in_one_of roster s u (Some p) (Some q) is is' h =
 in_one_of roster s u None o' is is' h = cc
 in_one_of roster s u (Some p) None is is' h = cc
 
-in_one : (roster : RosterView) (s u : Party) → is_partner roster s u ≡ true → InOne roster s u
+pub in_one : (roster : RosterView) (s u : Party) → is_partner roster s u ≡ true → InOne roster s u
 in_one roster s u h =
     in_one_of roster s u (partition_of roster s) (partition_of roster u) refl refl
     (both (not (is_same_party s u)) (is_same_partition roster s u) h).1
 
-partners_of_sent : (m : Setup) (past : List Event) (s u : Party) (j : ℕ) (body : List ℕ)
+pub partners_of_sent : (m : Setup) (past : List Event) (s u : Party) (j : ℕ) (body : List ℕ)
     → slice_get ((state m past).sent s u) j ≡ Some body → is_partner m.roster s u ≡ true
 partners_of_sent m past s u j body is = elim (bool_cases (is_partner m.roster s u)) [
   | inl partners ↦ partners

@@ -16,6 +16,7 @@ pub mod FilesRange
 pub mod Questions
 pub mod ReadDown
 pub mod ReplyRange
+pub mod Asked
 pub mod Elsewhere
 pub mod LowReplies
 pub mod LowPart
@@ -23,7 +24,9 @@ pub mod Twins
 pub mod AskSends
 pub mod ManagerReplies
 pub mod FramesApart
+pub mod Coming
 pub mod Small
+pub mod Addresses
 pub mod RosterKeys
 pub mod FirstFalse
 pub mod Rows

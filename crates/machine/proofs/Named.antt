@@ -24,7 +24,7 @@ none_of m x e s u j off only s' j' = elim (bool_cases (gives m x e s' u j')) [
 ]
 
 -- where an event gives one message alone, if it gives it
-by_one : (m : Setup) (x : State) (e : Event) (s u : Party) (j : ℕ) → Apart (parties m.roster)
+pub by_one : (m : Setup) (x : State) (e : Event) (s u : Party) (j : ℕ) → Apart (parties m.roster)
     → is_in s (parties m.roster) ≡ true
     → ((s' : Party) (j' : ℕ) → gives m x e s' u j' ≡ true → (s' ≡ s) × (j' ≡ j))
     → given_to m x e u ≡ given_if (gives m x e s u j) (message_of s (x.sent s u) j)

@@ -93,7 +93,7 @@ past_it P j a (suc n) only lt = elim (bool_cases (P a)) [
   | inr off ↦ rw off (past_it P j (a + 1) n only (omega arith))
 ]
 
-filter_one : (P : ℕ → Bool) (j a n : ℕ) → P j ≡ true → ((k : ℕ) → P k ≡ true → k ≡ j) → a ≤ j → j < a + n
+pub filter_one : (P : ℕ → Bool) (j a n : ℕ) → P j ≡ true → ((k : ℕ) → P k ≡ true → k ≡ j) → a ≤ j → j < a + n
     → filter P (range_with_len a n) ≡ j ∷ []
 filter_one P j a zero on only le lt = absurd (omega arith)
 filter_one P j a (suc n) on only le lt = elim (bool_cases (P a)) [
@@ -107,7 +107,7 @@ filter_one P j a (suc n) on only le lt = elim (bool_cases (P a)) [
       rw other (filter_one P j (a + 1) n on only (omega arith) (omega arith)))
 ]
 
-not_of_other : (m : Setup) (x : State) (e : Event) (s s' u : Party) (j k : ℕ) → GivesAlone m x e s u j
+pub not_of_other : (m : Setup) (x : State) (e : Event) (s s' u : Party) (j k : ℕ) → GivesAlone m x e s u j
     → is_same_party s' s ≡ false → gives m x e s' u k ≡ false
 not_of_other m x e s s' u j k only differ = elim (bool_cases (gives m x e s' u k)) [
   | inl on ↦
@@ -121,7 +121,7 @@ only_its f s none t =
     elim (bool_cases (is_same_party t s)) [ inl here ↦ rw here | inr other ↦ rw (other, none t other) ]
 
 -- flattened, where all but one of different parties give nothing
-alone : {A : Type 0} (f : Party → List A) (s : Party) (ts : List Party) → Apart ts → is_in s ts ≡ true
+pub alone : {A : Type 0} (f : Party → List A) (s : Party) (ts : List Party) → Apart ts → is_in s ts ≡ true
     → ((t : Party) → is_same_party t s ≡ false → f t ≡ []) → flat_map f ts ≡ f s
 alone f s ts apart some none =
     ap (λ g. flat_map g ts) (λ i t. only_its f s none t i) ∙ only_one s f ts apart some

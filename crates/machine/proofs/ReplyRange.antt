@@ -220,7 +220,7 @@ content_there (x ∷ writes) zero w all is =
     ap (λ (y : Write). is_content y.content) (sym same) ∙ all.0
 content_there (x ∷ writes) (suc k) w all is = content_there writes k w all.1 is
 
-written_content : (writes : List Write) (v : ℕ) (o : Option Write) (content : List ℕ) → HoldContents writes
+pub written_content : (writes : List Write) (v : ℕ) (o : Option Write) (content : List ℕ) → HoldContents writes
     → written writes v ≡ o → option_map (λ (w : Write). w.content) o ≡ Some content → is_content content ≡ true
 written_content writes v None content all is h = cc
 written_content writes zero (Some w) content all is h = cc

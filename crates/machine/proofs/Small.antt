@@ -185,3 +185,18 @@ apart_at pieces script n is =
     frames_apart pieces (setup_of script) (reverse (take n script.events))
     (sealer_seals script.roster.sealing) is.roster
     (small_at pieces script n is)
+
+-- a stream has at most twice as many messages as there are events
+pub few_at : PiecesApart → (script : ScriptView) (n : ℕ) (s r : Party) → IsScript script
+    → length ((state_at script n).sent s r) ≤ 2 * length script.events
+few_at pieces script n s r is =
+    let back = length-reverse (take n script.events) in
+    let part = length-take n script.events in
+    let room = is.room in
+    let few = (reached pieces (setup_of script) (reverse (take n script.events))
+    (sealer_seals script.roster.sealing) is.roster
+    (omega (arith, back, part, room))
+    (all_reversed (SendsBytes script.roster) (take n script.events)
+    (all_taken (SendsBytes script.roster) n script.events
+    (all_send script.roster script.events is.events)))).few s r in
+    omega (arith, few, back, part)

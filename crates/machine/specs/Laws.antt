@@ -1,10 +1,12 @@
 -- What the laws of the machine say.
-use Rattle.std.specs.Prelude.{◌≡◌, ◌⊎◌, ℕ, ◌<◌, ◌≤◌, ◌^◌, List, [], ◌∷◌, ◌++◌, length, map, Bool, true, false, Option, Some, None, if◌then◌else◌, slice_get}
+use Rattle.std.specs.Prelude.{◌≡◌, ◌⊎◌, ℕ, ◌+◌, ◌<◌, ◌≤◌, ◌^◌, List, [], ◌∷◌, ◌++◌, length, map, filter, Bool, true, false, Option, Some, None, if◌then◌else◌, slice_get}
+use Rattle.std.specs.List.{range_with_len}
 use Rattle.std.specs.List.Sorted.{IsStrictlyIncreasing}
 use Rattle.levels.specs.declared.level.Party.{Party}
 use Rattle.levels.specs.Rosters.{RosterView, is_same_party, is_partner}
 use Rattle.frame.specs.Pieces.{pieces}
 use Rattle.seal_core.specs.Blocks.{AreBytes}
+use Rattle.file_calls.specs.Names.{is_name, is_content}
 use Rattle.file_calls.specs.declared.call.Reply.{Reply}
 use Rattle.file_calls.specs.declared.call.Reply.TheVariants.{Bytes, Block}
 use Rattle.file_calls.specs.Spelling.{reply_text}
@@ -17,7 +19,7 @@ use Rattle.machine.specs.Setup.{Setup, setup_of}
 use Rattle.machine.specs.Files.{CallRow, versions_of, written, files}
 use Rattle.machine.specs.Replies.{Question, is_below, block_version}
 use Rattle.machine.specs.Plan.{question_of, reply}
-use Rattle.machine.specs.Machine.{State, Message, hands, is_answered_on, end_of, told, state_at}
+use Rattle.machine.specs.Machine.{State, Message, hands, handed, gives, numbers_given, given_to, is_answered_on, after, arrivals_at, given_at, end_of, told, state_at}
 use Rattle.machine.specs.FalseBytes.{IsSentFrame}
 
 -- an event hands over piece i of message j from s to u, which was sent before
@@ -72,6 +74,17 @@ pub record ReadsDown
   pub written : written (files question.level before).writes version
       ≡ Some (record { name = question.name; block = question.block; content = content })
 
+-- what a question asks for was written: this content, under the question's version, for its name
+-- and as its block; each is in its range
+pub record AsksForWritten (before : List CallRow) (question : Question) : Type 0 where
+  pub level : question.level < 2 ^ 8
+  pub name : is_name question.name ≡ true
+  pub block : question.block ≤ 63
+  pub content : List ℕ
+  pub held : is_content content ≡ true
+  pub written : written (files question.level before).writes question.version
+      ≡ Some (record { name = question.name; block = question.block; content = content })
+
 -- a list is empty, or has one element
 abbrev pub IsOneAtMost : {A : Type 0} → List A → Type 0
 IsOneAtMost {A = A} xs = (xs ≡ []) ⊎ ((x : A) × (xs ≡ x ∷ []))
@@ -79,6 +92,32 @@ IsOneAtMost {A = A} xs = (xs ≡ []) ⊎ ((x : A) × (xs ≡ x ∷ []))
 -- the message, if it is given
 abbrev pub given_if : Bool → Message → List Message
 given_if given message = if given then message ∷ [] else []
+
+-- an event hands nothing over to u, and gives it nothing
+pub record HandsNothing (m : Setup) (x : State) (e : Event) (u : Party) : Type 0 where
+  pub none : (s : Party) → handed m x e s u ≡ []
+  pub numbers : (s : Party) → numbers_given m x e s u ≡ []
+  pub given : given_to m x e u ≡ []
+  pub arrivals : length (arrivals_at m.roster (after m e x) u)
+      ≡ length (arrivals_at m.roster x u)
+  pub count : length (given_at m.roster (after m e x) u) ≡ length (given_at m.roster x u)
+
+-- all that an event hands over to u are pieces of message j of s, which is this body; it gives that
+-- message or none
+pub record HandsOne (m : Setup) (x : State) (e : Event) (s u : Party) (j : ℕ) (body : List ℕ) :
+    Type 0 where
+  pub own : handed m x e s u
+      ≡ map (λ i. (j, i)) (filter (hands m e s u j body) (range_with_len 0 (pieces body)))
+  pub numbers : numbers_given m x e s u ≡ (if gives m x e s u j then j ∷ [] else [])
+  pub given : given_to m x e u
+      ≡ given_if (gives m x e s u j) (record { from = s; body = body })
+  pub others : (s' : Party) → is_same_party s' s ≡ false → handed m x e s' u ≡ []
+  pub silent : (s' : Party) → is_same_party s' s ≡ false → numbers_given m x e s' u ≡ []
+  pub arrivals : length (arrivals_at m.roster (after m e x) u)
+      ≡ length (arrivals_at m.roster x u)
+      + length (filter (hands m e s u j body) (range_with_len 0 (pieces body)))
+  pub count : length (given_at m.roster (after m e x) u)
+      ≡ length (given_at m.roster x u) + (if gives m x e s u j then 1 else 0)
 
 -- the bytes of a forged frame are the frame of pieces of one message to that unit at most
 abbrev pub OneFrame : Setup → State → Event → Type 0

@@ -167,6 +167,14 @@ state m [] = record {
 }
 state m (e ∷ past) = after m e (state m past)
 
+-- all pieces that have arrived at u, each as often as it did
+abbrev pub arrivals_at : RosterView → State → Party → List (ℕ × ℕ)
+arrivals_at roster x u = flat_map (λ s. x.arrived s u) (parties roster)
+
+-- the numbers of all messages that were given to u
+abbrev pub given_at : RosterView → State → Party → List ℕ
+given_at roster x u = flat_map (λ s. x.given s u) (parties roster)
+
 -- the state after the first n events of a script
 abbrev pub state_at : ScriptView → ℕ → State
 state_at script n = state (setup_of script) (reverse (take n script.events))

@@ -1,12 +1,14 @@
-ghost use Rattle.std.specs.Prelude.{◌≡◌, ◌↔◌, ℕ, ◌<◌, ◌≤◌, ◌++◌, ◌&&◌, not, length, List, true, false, Some, slice_get};
+ghost use Rattle.std.specs.Prelude.{◌≡◌, ◌≢◌, ◌↔◌, ℕ, ◌*◌, ◌<◌, ◌≤◌, [], ◌∷◌, ◌++◌, ◌&&◌, not, length, List, true, false, Some, slice_get};
+ghost use Rattle.std.specs.List.{AllByRecursion};
 ghost use Rattle.levels.specs.declared.level.Level.{Level};
 ghost use Rattle.levels.specs.declared.level.Partition.{Partition};
 ghost use Rattle.levels.specs.declared.level.Party.{Party};
-ghost use Rattle.levels.specs.declared.level.Party.TheVariants.{Manager};
+ghost use Rattle.levels.specs.declared.level.Party.TheVariants.{Host, Manager};
 ghost use Rattle.levels.specs.Kept.{IsRoster};
 ghost use Rattle.levels.specs.Keys.{keys_at, guard_of};
 ghost use Rattle.levels.specs.Order.{is_at_most};
-ghost use Rattle.levels.specs.Rosters.{is_same_party, level_of};
+ghost use Rattle.levels.specs.Rosters.{RosterView, partition_of, is_same_party, is_partner, level_of};
+ghost use Rattle.frame.specs.Pieces.{pieces, piece_of, IsPiece};
 ghost use Rattle.seal_core.specs.Sealing.{IsSealing};
 ghost use Rattle.file_calls.specs.declared.call.Call.{Call};
 ghost use Rattle.file_calls.specs.Spelling.{is_reply, reply_text, reply_of};
@@ -21,11 +23,13 @@ ghost use Rattle.machine.specs.Low.{place_of, is_low, low};
 ghost use Rattle.machine.specs.Sends.{Sending, sending_of};
 ghost use Rattle.machine.specs.Given.{has_piece, has_all, has_later};
 ghost use Rattle.machine.specs.Files.{CallRow};
-ghost use Rattle.machine.specs.Plan.{reply};
-ghost use Rattle.machine.specs.Machine.{State, handed, gives, message_of, given_to, after, state, told, state_at};
+ghost use Rattle.machine.specs.Replies.{Question};
+ghost use Rattle.machine.specs.Plan.{question_of, reply};
+ghost use Rattle.machine.specs.Machine.{State, address_of, number_of, handed, gives, message_of, given_to, sent_by, after, state, told, state_at};
+ghost use Rattle.machine.specs.Wire.{frames_of, frames_from};
 ghost use Rattle.machine.specs.FalseBytes.{IsSentFrame, IsFirstFalse};
 ghost use Rattle.machine.specs.Text.{text_below};
-ghost use Rattle.machine.specs.Laws.{HandsOver, HasArrived, AreInOrder, content_in, ReadsDown, given_if, OneFrame, IsOneAtMost, FramesApart, replies_to, StaysAt, AreSmall};
+ghost use Rattle.machine.specs.Laws.{HandsOver, HasArrived, AreInOrder, content_in, ReadsDown, AsksForWritten, given_if, HandsNothing, HandsOne, OneFrame, IsOneAtMost, FramesApart, replies_to, StaysAt, AreSmall};
 
 use frame::each_piece_has_a_frame_of_its_own;
 
@@ -90,6 +94,70 @@ pub fn only_what_is_named_is_given()
         given_to m x e at ≡ given_if (gives m x e stream.from at j) message) }
 {}
 
+/// What an event hands over to a party, and gives it: nothing, or pieces of one message.
+pub fn what_is_handed_over()
+    ensures nothing { (m : Setup) (x : State) (e : Event) (u : Party) →
+        ((s : Party) (j i : ℕ) → ¬ HandsOver m x e s u j i) → HandsNothing m x e u }
+    ensures one { (m : Setup) (x : State) (e : Event) (s u : Party) (j : ℕ) (body : List ℕ) →
+        IsRoster m.roster → is_known m.roster s ≡ true → slice_get (x.sent s u) j ≡ Some body →
+        ((s' : Party) (j' i : ℕ) → HandsOver m x e s' u j' i → (s' ≡ s) × (j' ≡ j)) →
+        HandsOne m x e s u j body }
+{}
+
+// ---- parties and their addresses
+
+/// A party of a roster has a partition and an address, and no other has both.
+pub fn parties_have_addresses()
+    ensures partition { (roster : RosterView) (s : Party) → IsRoster roster →
+        is_known roster s ≡ true → number_of (partition_of roster s) < 16 }
+    ensures address { (roster : RosterView) (s : Party) → IsRoster roster →
+        is_known roster s ≡ true → address_of s < 256 }
+    ensures host { (roster : RosterView) (a : ℕ) → IsRoster roster →
+        is_known roster (Host a) ≡ true → (1 ≤ a) × (a ≤ 250) }
+    ensures manager { (roster : RosterView) (p : Partition) →
+        is_known roster (Manager p) ≡ true → number_of (partition_of roster (Manager p)) ≡ p.0 }
+    ensures apart { (roster : RosterView) (s r : Party) → IsRoster roster →
+        is_known roster s ≡ true → is_known roster r ≡ true →
+        number_of (partition_of roster s) ≡ number_of (partition_of roster r) →
+        address_of s ≡ address_of r → s ≡ r }
+{}
+
+/// Partners are two parties of one partition, each the other's.
+pub fn partners_share_a_partition()
+    ensures known { (roster : RosterView) (s r : Party) → is_partner roster s r ≡ true →
+        (is_known roster s ≡ true) × (is_known roster r ≡ true) }
+    ensures same { (roster : RosterView) (s r : Party) → is_partner roster s r ≡ true →
+        number_of (partition_of roster s) ≡ number_of (partition_of roster r) }
+    ensures apart { (roster : RosterView) (s r : Party) → is_partner roster s r ≡ true → s ≢ r }
+    ensures both { (roster : RosterView) (s r : Party) →
+        is_partner roster s r ≡ is_partner roster r s }
+    ensures partners { (roster : RosterView) (s r : Party) →
+        is_known roster s ≡ true → is_known roster r ≡ true → s ≢ r →
+        number_of (partition_of roster s) ≡ number_of (partition_of roster r) →
+        is_partner roster s r ≡ true }
+{}
+
+// ---- what is sent
+
+/// What was sent, was sent to a partner, and what is given comes from one.
+pub fn partners_alone_are_sent_to()
+    ensures given { (m : Setup) (past : List Event) (e : Event) (u : Party) →
+        AllByRecursion (λ l. is_partner m.roster l.from u ≡ true)
+        (given_to m (state m past) e u) }
+    ensures sent { (m : Setup) (past : List Event) (s r : Party) (j : ℕ) (body : List ℕ) →
+        slice_get ((state m past).sent s r) j ≡ Some body → is_partner m.roster s r ≡ true }
+{}
+
+/// The frames of an event that makes a party send nothing, or one message.
+pub fn one_message_has_its_frames()
+    ensures nothing { (m : Setup) (x : State) (e : Event) (s : Party) →
+        ((r : Party) → sent_by m x e s r ≡ []) → frames_from m x e s ≡ [] }
+    ensures one { (m : Setup) (x : State) (e : Event) (s r : Party) (body : List ℕ) →
+        IsRoster m.roster → is_known m.roster r ≡ true → sent_by m x e s r ≡ body ∷ [] →
+        ((r' : Party) → is_same_party r' r ≡ false → sent_by m x e s r' ≡ []) →
+        frames_from m x e s ≡ frames_of m s r (length (x.sent s r)) body }
+{}
+
 // ---- events
 
 /// An event changes nothing at a party but the one where it happens.
@@ -135,12 +203,24 @@ pub fn a_frame_stays()
         IsSentFrame m x s u j i bytes → IsSentFrame m (after m e x) s u j i bytes }
 {}
 
-/// In every state of a script each message that was sent fits frames.
+/// In every state of a script each message that was sent fits frames, and a stream has at most
+/// twice as many messages as there are events.
 pub fn messages_fit_frames()
-    ensures { (script : ScriptView) (n : ℕ) → IsScript script → AreSmall (state_at script n) }
+    ensures small { (script : ScriptView) (n : ℕ) → IsScript script → AreSmall (state_at script n) }
+    ensures few { (script : ScriptView) (n : ℕ) (s r : Party) → IsScript script →
+        length ((state_at script n).sent s r) ≤ 2 * length script.events }
 {
     each_piece_has_a_frame_of_its_own();
 }
+
+/// The fields of a piece of a message that was sent are in their ranges.
+pub fn sent_pieces_fit_frames()
+    ensures { (m : Setup) (past : List Event) (s r : Party) (j i : ℕ) (body : List ℕ) →
+        IsRoster m.roster → AreSmall (state m past) →
+        slice_get ((state m past).sent s r) j ≡ Some body → i < pieces body →
+        IsPiece (piece_of (address_of s) (address_of r) (number_of (partition_of m.roster s)) j
+        body i) }
+{}
 
 /// Different pieces to one unit have different frames, by the laws of the sealing.
 pub fn frames_are_apart()
@@ -161,6 +241,12 @@ pub fn files_are_read_down()
     ensures { (m : Setup) (before : List CallRow) (c : CallRow) (version : ℕ) (content : List ℕ) →
         content_in (reply m before c) ≡ Some (version, content) →
         ReadsDown m.roster before c version content }
+{}
+
+/// A question asks for a block that was written, under the version that it asks for.
+pub fn questions_ask_for_what_was_written()
+    ensures { (roster : RosterView) (before : List CallRow) (c : CallRow) (question : Question) →
+        question_of roster before c ≡ Some question → AsksForWritten before question }
 {}
 
 /// Every reply has its fields in their ranges, and is read back from its spelling.

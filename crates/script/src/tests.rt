@@ -1,8 +1,10 @@
 ghost use Rattle.std.specs.Prelude.{◌≤◌};
+ghost use Rattle.events.specs.Scripts.{HasBlockNumber};
 
 use crate::{
     Body, Edits, Event, Reason, Refusal, Script, ScriptRefused, Stream, read_script, write_script,
 };
+use events::{AskedCall, ForgedFrame};
 use file_calls::{Call, Content, Name};
 use levels::{Level, LevelName, Partition, Party, Roster, Sealing};
 use seal_core::KeyPair;
@@ -316,36 +318,43 @@ fn content(alloc: Global, bytes: &[u8]) -> Result<Content, Fail> {
     Ok(Content::new(alloc, bytes)?.ok_or("too long")?)
 }
 
+fn add_call(alloc: Global, script: &mut Script, call: Call) -> Result<(), Fail>
+    requires { HasBlockNumber call }
+{
+    let from = 5;
+    let call = AskedCall::new(alloc, call)?;
+    script.add_event(Event::Ask { from, call })?;
+    Ok(())
+}
+
 /// Adds a call of each form.
 fn add_calls(alloc: Global, script: &mut Script) -> Result<(), Fail> {
-    let calls = [
-        Call::Put {
-            name: file_name(alloc, b"note")?,
-            content: content(alloc, b"ab")?,
-        },
-        Call::Get {
-            level: 0,
-            name: file_name(alloc, b"note")?,
-        },
-        Call::List { level: 1 },
-        Call::Remove {
-            name: file_name(alloc, b"a.txt")?,
-        },
-        Call::Append {
-            name: file_name(alloc, b"note")?,
-            content: content(alloc, b"")?,
-        },
-        Call::GetBlock {
-            level: 0,
-            name: file_name(alloc, b"0-_.z")?,
-            block: 63,
-        },
-    ];
-    for call in calls {
-        let from = 5;
-        script.add_event(Event::Ask { from, call })?;
-    }
-    Ok(())
+    let put = Call::Put {
+        name: file_name(alloc, b"note")?,
+        content: content(alloc, b"ab")?,
+    };
+    add_call(alloc, script, put)?;
+    let get = Call::Get {
+        level: 0,
+        name: file_name(alloc, b"note")?,
+    };
+    add_call(alloc, script, get)?;
+    add_call(alloc, script, Call::List { level: 1 })?;
+    let remove = Call::Remove {
+        name: file_name(alloc, b"a.txt")?,
+    };
+    add_call(alloc, script, remove)?;
+    let append = Call::Append {
+        name: file_name(alloc, b"note")?,
+        content: content(alloc, b"")?,
+    };
+    add_call(alloc, script, append)?;
+    let block = Call::GetBlock {
+        level: 0,
+        name: file_name(alloc, b"0-_.z")?,
+        block: 63,
+    };
+    add_call(alloc, script, block)
 }
 
 #[test]
@@ -383,7 +392,7 @@ fn writes_lines_of_every_form(rt: HostRuntime) -> Result<(), Fail> {
     })?;
     script.add_event(Event::Forge {
         at: manager,
-        bytes: [0xa5; 128],
+        frame: ForgedFrame::new(alloc, &[0xa5; 128])?,
     })?;
     let edits = Edits::new(&[(0, 1), (40, 0xff), (127, 0x80)]).ok_or("no edits")?;
     script.add_event(Event::Tamper {

@@ -321,7 +321,7 @@ pub fn write_event(
         Event::Send { from, to, message } => {
             write_send(alloc, text, roster, *from, *to, message.bytes())
         }
-        Event::Ask { from, call } => write_ask(alloc, text, roster, *from, call),
+        Event::Ask { from, call } => write_ask(alloc, text, roster, *from, call.call()),
         Event::Arrive {
             stream,
             message,
@@ -333,7 +333,7 @@ pub fn write_event(
             message,
             at,
         } => write_carry(alloc, text, roster, *stream, *message, *at),
-        Event::Forge { at, bytes } => write_forge(alloc, text, roster, *at, bytes),
+        Event::Forge { at, frame } => write_forge(alloc, text, roster, *at, frame.bytes()),
         Event::Tamper {
             stream,
             message,

@@ -1,0 +1,2 @@
+pub mod NetView
+pub mod Nets

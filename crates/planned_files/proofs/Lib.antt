@@ -1,0 +1,5 @@
+pub mod Options
+pub mod Writes
+pub mod Questions
+pub mod FalseRecords
+pub mod Following

@@ -1,0 +1,4 @@
+pub mod FilesView
+pub mod Standing
+pub mod Answers
+pub mod inside

@@ -1,0 +1,6 @@
+pub mod Pending
+pub mod Arriving
+pub mod Walking
+pub mod Offering
+pub mod Receiving
+pub mod Settling

@@ -1,0 +1,10 @@
+pub mod Lists
+pub mod Laying
+pub mod Offering
+pub mod Sent
+pub mod Hearings
+pub mod Openings
+pub mod Settlings
+pub mod Renumbering
+pub mod Turning
+pub mod Filled
