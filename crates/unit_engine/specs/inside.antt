@@ -1,0 +1,11 @@
+pub mod Facts
+pub mod Kept
+pub mod Standing
+pub mod Events
+pub mod Merging
+pub mod Arrivals
+pub mod Ends
+pub mod Alone
+pub mod Judging
+pub mod Scripted
+pub mod Closed
