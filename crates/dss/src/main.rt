@@ -3,6 +3,7 @@
 
 use dss_io::{StdSink, StdSource};
 use replay::{Status, run};
+use ring_link::NoGate;
 use std::process::ExitCode;
 use std::{env, io};
 
@@ -23,7 +24,16 @@ fn main(rt: HostRuntime) -> ExitCode {
         Ok(words) => {
             let mut source = StdSource::new(rt.stdin());
             let mut sink = StdSink::new(rt.stdout());
-            run(&rt, rt.alloc(), &words, &mut source, &mut sink)
+            let mut kept = None;
+            run(
+                &rt,
+                rt.alloc(),
+                &words,
+                &mut source,
+                &mut sink,
+                &NoGate,
+                &mut kept,
+            )
         }
         Err(error) if error.kind() == io::ErrorKind::OutOfMemory => Status::OutOfMemory,
         Err(_) => Status::Usage,

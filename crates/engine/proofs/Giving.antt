@@ -1,18 +1,15 @@
 -- When pieces that were cut from messages give them.
-use Rattle.std.proofs.Common.{◌≡◌, ℕ, zero, suc, ◌+◌, ◌-◌, ◌*◌, ◌<◌, ◌≤◌, List, [], ◌∷◌, ◌++◌, ◌&&◌, ◌||◌, length, map, Bool, true, false, Option, Some, None, refl, sym, ◌∙◌, ap, append-nil, ◌⊎◌, inl, inr, arith}
+use Rattle.std.proofs.Common.{◌≡◌, ℕ, zero, suc, ◌+◌, ◌-◌, ◌*◌, ◌<◌, ◌≤◌, List, [], ◌∷◌, ◌++◌, ◌&&◌, ◌||◌, length, Bool, true, false, Option, Some, None, refl, sym, ◌∙◌, ap, ◌⊎◌, inl, inr, arith}
 use Rattle.std.specs.Prelude.{if◌then◌else◌, slice_get, ◌==◌, nat_lt, not, unwrap_or}
 use Rattle.std.specs.List.{list_any, list_all, range_with_len, flat_map, AllByRecursion}
 use Rattle.std.proofs.lemmas.Bool.Decides.{nat_tests}
-use Rattle.std.proofs.lemmas.List.Folds.{list_any-append}
 use Rattle.std.proofs.lemmas.Option.{same_Some}
-use Rattle.levels.specs.declared.level.Party.{Party}
-use Rattle.levels.specs.declared.level.Party.TheVariants.{Host}
 use Rattle.frame.specs.Pieces.{PieceView, piece_count, pieces, piece_bytes, used_bytes}
 use Rattle.window.specs.ListRule as list
 use Rattle.window.specs.ListRule.{or_else, last_of, is_at, is_held, is_whole, bytes_at, places_to, body, completes}
-use Rattle.lattice_machine.specs.Given.{has_piece, has_all, has_later, is_given}
-use Rattle.lattice_machine.specs.Told.{given_line}
-use Rattle.engine.specs.Genuine.{IsPieceOf, AreGenuine, lines_of_piece, carried}
+use Rattle.machine.specs.Given.{has_piece, has_all, has_later}
+use Rattle.engine.specs.Genuine.{IsPieceOf, AreGenuine}
+use Rattle.engine.specs.inside.Facts.{PiecesHold}
 use Rattle.engine.proofs.Cases.{bool_cases}
 
 -- the messages sent before others keep their numbers
@@ -77,11 +74,6 @@ none_yet messages = record {
   same = λ j i. refl;
   later = λ j. refl;
 }
-
--- the pieces of each message hold its bytes
-abbrev pub PiecesHold : Type 0
-PiecesHold = (message : List ℕ) → flat_map (piece_bytes message) (range_with_len 0 (pieces message))
-    ≡ message
 
 pub hold : ((message : List ℕ) (n : ℕ) → length message ≤ 88 * n
     → flat_map (piece_bytes message) (range_with_len 0 n) ≡ message)
@@ -231,12 +223,17 @@ body_when messages h arrived j m hold g is whole =
       | inr none ↦ (let none_there = none.0 in let never = rw none_there at whole in cc)
     ]
 
+-- whether a message is given, where nothing is given behind the newest one
+abbrev pub is_new : List ℕ → List (ℕ × ℕ) → List (ℕ × ℕ) → ℕ → Bool
+is_new m before now j =
+    has_all (Some m) now j && not (has_all (Some m) before j) && not (has_later before j)
+
 -- the pieces that came give what is to be given
-completes_when : (messages : List (List ℕ)) (h : List PieceView) (before now : List (ℕ × ℕ))
+pub completes_when : (messages : List (List ℕ)) (h : List PieceView) (before now : List (ℕ × ℕ))
     (x : PieceView) (m : List ℕ) →
     AreGenuine messages h before → AreGenuine messages (x ∷ h) now
     → slice_get messages x.message ≡ Some m →
-    completes h x ≡ is_given (Some m) before now x.message
+    completes h x ≡ is_new m before now x.message
 completes_when messages h before now x m g g' is =
     let whole_now = whole_when messages (x ∷ h) now x.message m g' is in
     let whole_before = whole_when messages h before x.message m g is in
@@ -247,164 +244,14 @@ completes_when messages h before now x m g g' is =
     ∙ ap (λ b. has_all (Some m) now x.message && not (has_all (Some m) before x.message) && not b)
     (sym later)
 
--- the line of a piece that completes its message has the message
-line_when : (messages : List (List ℕ)) (h : List PieceView) (now : List (ℕ × ℕ)) (x : PieceView)
-    (m : List ℕ) →
-    PiecesHold → AreGenuine messages (x ∷ h) now → slice_get messages x.message ≡ Some m →
-    lines_of_piece h x ≡ given_line (Host x.from) (if completes h x then Some m else None)
-line_when messages h now x m hold g' is =
-    elim (bool_cases (completes h x)) [
-      | inl done ↦
-          let whole : is_whole (x ∷ h) x.message ≡ true =
-          and_left (is_whole (x ∷ h) x.message) (not (is_whole h x.message))
-          (not (list.has_newer h x.message)) done in
-          let bytes : body (x ∷ h) x.message ≡ m =
-          body_when messages (x ∷ h) now x.message m hold g' is whole in
-          rw (done, bytes) refl
-      | inr unfinished ↦ rw unfinished refl
-    ]
+-- and the message that was cut
+pub body_if : (messages : List (List ℕ)) (h : List PieceView) (now : List (ℕ × ℕ)) (x : PieceView)
+    (m : List ℕ) → PiecesHold → AreGenuine messages (x ∷ h) now
+    → slice_get messages x.message ≡ Some m → completes h x ≡ true → body (x ∷ h) x.message ≡ m
+body_if messages h now x m hold g' is done =
+    body_when messages (x ∷ h) now x.message m hold g' is
+    (and_left (is_whole (x ∷ h) x.message) (not (is_whole h x.message))
+    (not (list.has_newer h x.message)) done)
   where
     and_left : (a b c : Bool) → (a && b && c) ≡ true → a ≡ true
     and_left a b c all = grind (arith, nat_tests)
-
--- a piece that arrives gives a message where the lattice machine does
-pub arrived_line : (messages : List (List ℕ)) (h : List PieceView) (arrived : List (ℕ × ℕ))
-    (x : PieceView) (m : List ℕ) →
-    PiecesHold → AreGenuine messages h arrived → IsPieceOf messages x
-    → slice_get messages x.message ≡ Some m →
-    lines_of_piece h x ≡ given_line (Host x.from)
-    (if is_given (Some m) arrived ((x.message, x.piece) ∷ arrived) x.message then Some m
-    else None)
-arrived_line messages h arrived x m hold g p is =
-    let now = (x.message, x.piece) ∷ arrived in
-    let g' : AreGenuine messages (x ∷ h) now = one_more messages h arrived x g p in
-    line_when messages h now x m hold g' is
-    ∙ ap (λ b. given_line (Host x.from) (if b then Some m else None))
-    (completes_when messages h arrived now x m g g' is)
-
--- one more piece of a message that is carried
-carried_more : (f : ℕ × ℕ → Bool) (j k : ℕ) (arrived : List (ℕ × ℕ))
-    → list_any f (carried j (k + 1) arrived) ≡ list_any f ((j, k) ∷ carried j k arrived)
-carried_more f j k arrived =
-    let e : k + 1 ≡ suc k = omega arith in
-    let start : 0 + k ≡ k = omega arith in
-    ap (λ n. list_any f (carried j n arrived)) e ∙ from 0 k
-    ∙ ap (λ n. f (j, n) || list_any f (carried j k arrived)) start
-  where
-    swapped : (a b c : Bool) → (a || (b || c)) ≡ (b || (a || c))
-    swapped true true c = refl
-    swapped true false c = refl
-    swapped false b c = refl
-
-    from : (a n : ℕ) → list_any f (map (λ i. (j, i)) (range_with_len a (suc n)) ++ arrived)
-        ≡ (f (j, a + n) || list_any f (map (λ i. (j, i)) (range_with_len a n) ++ arrived))
-    from a zero = let e : a ≡ a + 0 = omega arith in ap (λ i. f (j, i) || list_any f arrived) e
-    from a (suc n) =
-        let e : a + 1 + n ≡ a + suc n = omega arith in
-        let rest = list_any f (map (λ i. (j, i)) (range_with_len (a + 1) n) ++ arrived) in
-        ap (λ b. f (j, a) || b) (from (a + 1) n)
-        ∙ swapped (f (j, a)) (f (j, a + 1 + n)) rest
-        ∙ ap (λ i. f (j, i) || (f (j, a) || rest)) e
-
--- the next piece of a message that is carried
-pub one_carried : (messages : List (List ℕ)) (h : List PieceView) (j k : ℕ) (arrived : List (ℕ × ℕ))
-    (x : PieceView) →
-    AreGenuine messages h (carried j k arrived) → IsPieceOf messages x → x.message ≡ j → x.piece ≡ k
-    →
-    AreGenuine messages (x ∷ h) (carried j (k + 1) arrived)
-one_carried messages h j k arrived x g p message_is piece_is =
-    let before = carried j k arrived in
-    same_arrived messages (x ∷ h) ((x.message, x.piece) ∷ before) (carried j (k + 1) arrived)
-    (one_more messages h before x g p)
-    (λ j' i. rw (message_is, piece_is) (carried_more (λ q. q.0 == j' && q.1 == i) j k arrived))
-    (λ j'. rw message_is (carried_more (λ q. nat_lt j' q.0) j k arrived))
-
-all_more : (P Q : ℕ → Bool) (xs : List ℕ) → ((i : ℕ) → P i ≡ true → Q i ≡ true)
-    → list_all P xs ≡ true → list_all Q xs ≡ true
-all_more P Q [] more all = refl
-all_more P Q (x ∷ xs) more all = grind (arith, nat_tests, more x, all_more P Q xs more)
-
-or_right : (a b : Bool) → b ≡ true → (a || b) ≡ true
-or_right true b h = refl
-or_right false b h = h
-
--- what had arrived before a message is carried
-carried_keeps : (m : List ℕ) (j k : ℕ) (arrived : List (ℕ × ℕ)) → has_all (Some m) arrived j ≡ true
-    → has_all (Some m) (carried j k arrived) j ≡ true
-carried_keeps m j k arrived all =
-    all_more (has_piece arrived j) (has_piece (carried j k arrived) j) (range_with_len 0 (pieces m))
-    (λ i held. list_any-append (λ (q : ℕ × ℕ). q.0 == j && q.1 == i)
-    (map (λ i. (j, i)) (range_with_len 0 k)) arrived
-    ∙ or_right (has_piece (map (λ i. (j, i)) (range_with_len 0 k)) j i) (has_piece arrived j i)
-    held)
-    all
-
-carried_grows : (m : List ℕ) (j k : ℕ) (arrived : List (ℕ × ℕ)) →
-    has_all (Some m) (carried j k arrived) j ≡ true
-    → has_all (Some m) (carried j (k + 1) arrived) j ≡ true
-carried_grows m j k arrived all =
-    all_more (has_piece (carried j k arrived) j) (has_piece (carried j (k + 1) arrived) j)
-    (range_with_len 0 (pieces m))
-    (λ i held. carried_more (λ (q : ℕ × ℕ). q.0 == j && q.1 == i) j k arrived
-    ∙ or_right (j == j && k == i) (has_piece (carried j k arrived) j i) held)
-    all
-
--- no piece of a message is later than it
-carried_later : (j : ℕ) (places : List ℕ) (arrived : List (ℕ × ℕ))
-    → has_later (map (λ i. (j, i)) places ++ arrived) j ≡ has_later arrived j
-carried_later j [] arrived = refl
-carried_later j (i ∷ places) arrived = let own : nat_lt j j ≡ false = grind (arith, nat_tests) in
-    rw own (carried_later j places arrived)
-
--- each piece of a message that is carried adds its line
-pub carried_line : (messages : List (List ℕ)) (h : List PieceView) (j k : ℕ)
-    (arrived : List (ℕ × ℕ)) (x : PieceView) (m : List ℕ) → PiecesHold →
-    AreGenuine messages h (carried j k arrived) → IsPieceOf messages x → x.message ≡ j → x.piece ≡ k
-    → slice_get messages j ≡ Some m →
-    given_line (Host x.from) (if is_given (Some m) arrived (carried j (k + 1) arrived) j then Some m
-    else None)
-    ≡ given_line (Host x.from) (if is_given (Some m) arrived (carried j k arrived) j then Some m
-    else None) ++ lines_of_piece h x
-carried_line messages h j k arrived x m hold g p message_is piece_is is =
-    let before = carried j k arrived in
-    let now = carried j (k + 1) arrived in
-    let g' : AreGenuine messages (x ∷ h) now =
-    one_carried messages h j k arrived x g p message_is piece_is in
-    let is' : slice_get messages x.message ≡ Some m = ap (slice_get messages) message_is ∙ is in
-    let done : completes h x ≡ (has_all (Some m) now j && not (has_all (Some m) before j)
-    && not (has_later arrived j)) =
-    completes_when messages h before now x m g g' is'
-    ∙ ap (is_given (Some m) before now) message_is
-    ∙ ap (λ b. has_all (Some m) now j && not (has_all (Some m) before j) && not b)
-    (carried_later j (range_with_len 0 k) arrived) in
-    lines_join (Host x.from) (has_all (Some m) arrived j) (has_all (Some m) before j)
-    (has_all (Some m) now j) (has_later arrived j)
-    (carried_keeps m j k arrived) (carried_grows m j k arrived)
-    ∙ ap (λ b. given_line (Host x.from)
-    (if is_given (Some m) arrived before j then Some m else None)
-    ++ given_line (Host x.from) (if b then Some m else None)) (sym done)
-    ∙ ap (λ lines. given_line (Host x.from)
-    (if is_given (Some m) arrived before j then Some m else None) ++ lines)
-    (sym (line_when messages h now x m hold g' is'))
-  where
-    lines_join : (s : Party) (was before now later : Bool) → (was ≡ true → before ≡ true)
-        → (before ≡ true → now ≡ true) →
-        given_line s (if now && not was && not later then Some m else None)
-        ≡ given_line s (if before && not was && not later then Some m else None)
-        ++ given_line s (if now && not before && not later then Some m else None)
-    lines_join s was true now later keeps grows = let t = grows refl in
-        rw t (sym (append-nil (given_line s (if true && not was && not later then Some m
-        else None))))
-    lines_join s true false now later keeps grows = let t = keeps refl in cc
-    lines_join s false false now later keeps grows = refl
-
--- before the first piece of a message that is carried there is no line
-pub carried_none : (s : Party) (j : ℕ) (arrived : List (ℕ × ℕ)) (m : List ℕ) →
-    given_line s (if is_given (Some m) arrived (carried j 0 arrived) j then Some m else None) ≡ []
-carried_none s j arrived m =
-    ap (λ b. given_line s (if b then Some m else None))
-    (not_twice (has_all (Some m) arrived j) (not (has_later arrived j)))
-  where
-    not_twice : (a b : Bool) → (a && not a && b) ≡ false
-    not_twice true b = refl
-    not_twice false b = refl

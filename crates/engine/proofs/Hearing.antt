@@ -1,47 +1,253 @@
--- The line of a message that was given.
-use Rattle.std.proofs.Common.{◌≡◌, ℕ, List, [], ◌∷◌, Bool, true, false, Some, None, length, take, drop, refl, ◌∙◌, ap, cond}
-use Rattle.std.proofs.Math.Seq.{take-append_seam}
-use Rattle.std.proofs.lemmas.Option.{same_Some}
-use Rattle.levels.specs.declared.level.Party.TheVariants.{Host}
-use Rattle.frame.specs.Pieces.{PieceView}
+-- A desk hears pieces of one message.
+use Rattle.std.proofs.Common.{◌≡◌, ◌≢◌, ℕ, ◌+◌, ◌<◌, List, [], ◌∷◌, ◌++◌, ◌&&◌, ◌||◌, length, map, Bool, true, false, Some, refl, sym, ◌∙◌, ap, ap₂, subst, append-nil, append_assoc, arith}
+use Rattle.std.specs.Prelude.{slice_get, ◌==◌, not, nat_lt, if◌then◌else◌}
+use Rattle.std.specs.List.{list_any, list_all, range_with_len, AllByRecursion}
+use Rattle.std.proofs.lemmas.Bool.Decides.{nat_tests}
+use Rattle.levels.specs.declared.level.Party.{Party}
+use Rattle.frame.specs.Pieces.{PieceView, pieces, piece_of}
 use Rattle.window.specs.ListRule.{completes, body}
-use Rattle.host_side.specs.Hosts.{given_at, with_front, out_after}
-use Rattle.host_side.specs.declared.host.Given.{Given}
-use Rattle.lattice_machine.specs.declared.line.OutLine.{OutLine}
-use Rattle.lattice_machine.specs.declared.line.OutLine.TheVariants.{From}
-use Rattle.engine.specs.Genuine.{lines_of_piece}
+use Rattle.net_side.specs.declared.inbound.Inbound.TheVariants.{Ours}
+use Rattle.unit_core.specs.Hearing.{with_piece}
+use Rattle.machine.specs.declared.line.OutLine.{OutLine}
+use Rattle.machine.specs.declared.line.OutLine.TheVariants.{From}
+use Rattle.machine.specs.Given.{has_piece, has_all, has_later}
+use Rattle.desk.specs.Deeds.{DeskState, party_at, lines_of_piece, heard, does, hearings}
+use Rattle.engine.specs.Genuine.{IsPieceOf, AreGenuine}
+use Rattle.engine.proofs.Cases.{yes, no}
+use Rattle.engine.specs.inside.Facts.{PiecesHold, EachCarries}
+use Rattle.engine.proofs.Giving.{is_new, completes_when, body_if, one_more, same_arrived}
 
-line_of : (b : Bool) (x : PieceView) (message before after : List ℕ) (given : Given)
-    → Some given ≡ cond b (Some (record {
-      from = x.from;
-      message = x.message;
-      length =
-          length message;
-    })) None
-    → after ≡ cond b (with_front before message) before
-    → From (Host given.from) (take given.length after) ∷ []
-    ≡ cond b (From (Host x.from) message ∷ []) []
-line_of true x message before after given is out =
-    let same = same_Some _ _ is in
-    ap (λ (g : Given). From (Host g.from) (take g.length after) ∷ []) same
-    ∙ ap (λ bytes. From (Host x.from) (take (length message) bytes) ∷ []) out
-    ∙ ap (λ bytes. From (Host x.from) bytes ∷ [])
-    (take-append_seam message (drop (length message) before))
-line_of false x message before after given is out = absurd cc
+-- pieces of message j, in these places
+abbrev pub in_places : ℕ → List ℕ → List (ℕ × ℕ)
+in_places j places = map (λ i. (j, i)) places
 
--- what was written to the front is the message that the piece completes
-pub line_of_given : (h : List PieceView) (x : PieceView) (before after : List ℕ) (given : Given)
-    → Some given ≡ given_at h x → after ≡ out_after before h x
-    → From (Host given.from) (take given.length after) ∷ [] ≡ lines_of_piece h x
-line_of_given h x before after given is out =
-    line_of (completes h x) x (body (x ∷ h) x.message) before after given is out
+abbrev pub line_if : Bool → Party → List ℕ → List OutLine
+line_if given s m = if given then From s m ∷ [] else []
 
-no_line : (b : Bool) (given : Given) (line : OutLine) → None ≡ cond b (Some given) None
-    → cond b (line ∷ []) [] ≡ []
-no_line true given line is = absurd cc
-no_line false given line is = refl
+abbrev pub one_if : Bool → ℕ
+one_if given = if given then 1 else 0
 
--- a piece that completes no message has no line
-pub no_line_of : (h : List PieceView) (x : PieceView) → None ≡ given_at h x
-    → lines_of_piece h x ≡ []
-no_line_of h x is = no_line (completes h x) _ _ is
+-- a desk has heard pieces of message j, which is m, in these places from address a
+pub record HeardSome (messages : List (List ℕ)) (a j : ℕ) (m places : List ℕ)
+    (arrived : List (ℕ × ℕ)) (old new : DeskState) : Type 0 where
+  pub address : new.address ≡ old.address
+  pub partition : new.partition ≡ old.partition
+  pub frame : new.frame ≡ old.frame
+  pub streams : new.streams ≡ old.streams
+  pub wire : new.wire ≡ old.wire
+  pub lines : new.lines ≡ old.lines
+      ++ line_if (is_new m arrived (in_places j places ++ arrived) j) (party_at old.partition a) m
+  pub ours : new.ours ≡ old.ours + length places
+  pub given : new.given ≡ old.given
+      + one_if (is_new m arrived (in_places j places ++ arrived) j)
+  pub genuine : AreGenuine messages (new.heard a) (in_places j places ++ arrived)
+  pub others : (b : ℕ) → b ≢ a → new.heard b ≡ old.heard b
+
+-- ---- sets of arrivals
+
+all_more : (P Q : ℕ → Bool) (xs : List ℕ) → ((i : ℕ) → P i ≡ true → Q i ≡ true)
+    → list_all P xs ≡ true → list_all Q xs ≡ true
+all_more P Q [] more all = refl
+all_more P Q (x ∷ xs) more all = grind (arith, nat_tests, more x, all_more P Q xs more)
+
+all_alike : (P Q : ℕ → Bool) (xs : List ℕ) → ((i : ℕ) → P i ≡ Q i) → list_all P xs ≡ list_all Q xs
+all_alike P Q [] same = refl
+all_alike P Q (x ∷ xs) same = grind (arith, same x, all_alike P Q xs same)
+
+swapped : (a b c : Bool) → (a || (b || c)) ≡ (b || (a || c))
+swapped true true c = refl
+swapped true false c = refl
+swapped false b c = refl
+
+-- where a piece stands in a set makes no difference
+any_moved : (f : ℕ × ℕ → Bool) (xs : List (ℕ × ℕ)) (p : ℕ × ℕ) (ys : List (ℕ × ℕ))
+    → list_any f (xs ++ p ∷ ys) ≡ list_any f (p ∷ xs ++ ys)
+any_moved f [] p ys = refl
+any_moved f (x ∷ xs) p ys =
+    ap (λ b. f x || b) (any_moved f xs p ys) ∙ swapped (f x) (f p) (list_any f (xs ++ ys))
+
+or_right : (a b : Bool) → b ≡ true → (a || b) ≡ true
+or_right true b h = refl
+or_right false b h = h
+
+still : (f : ℕ × ℕ → Bool) (xs ys : List (ℕ × ℕ)) → list_any f ys ≡ true
+    → list_any f (xs ++ ys) ≡ true
+still f [] ys h = h
+still f (x ∷ xs) ys h = or_right (f x) (list_any f (xs ++ ys)) (still f xs ys h)
+
+all_still : (m : List ℕ) (new before : List (ℕ × ℕ)) (j : ℕ) → has_all (Some m) before j ≡ true
+    → has_all (Some m) (new ++ before) j ≡ true
+all_still m new before j all =
+    all_more (has_piece before j) (has_piece (new ++ before) j) (range_with_len 0 (pieces m))
+    (λ i. still (λ p. p.0 == j && p.1 == i) new before) all
+
+-- no piece of a message is later than it
+later_same : (j : ℕ) (places : List ℕ) (arrived : List (ℕ × ℕ))
+    → has_later (in_places j places ++ arrived) j ≡ has_later arrived j
+later_same j [] arrived = refl
+later_same j (i ∷ places) arrived =
+    let own : nat_lt j j ≡ false = grind (arith, nat_tests) in
+    rw own (later_same j places arrived)
+
+-- ---- lines
+
+-- a message is new at one of two steps, or at neither
+lines_join : (s : Party) (m : List ℕ) (was mid now later : Bool) → (was ≡ true → mid ≡ true)
+    → (mid ≡ true → now ≡ true)
+    → line_if (mid && not was && not later) s m ++ line_if (now && not mid && not later) s m
+    ≡ line_if (now && not was && not later) s m
+lines_join s m true mid now later keeps grows =
+    let t = keeps refl in let u = grows t in rw (t, u) refl
+lines_join s m false true now later keeps grows =
+    let u = grows refl in rw u (append-nil (line_if (true && not later) s m))
+lines_join s m false false now later keeps grows = refl
+
+ones_join : (was mid now later : Bool) → (was ≡ true → mid ≡ true) → (mid ≡ true → now ≡ true)
+    → one_if (mid && not was && not later) + one_if (now && not mid && not later)
+    ≡ one_if (now && not was && not later)
+ones_join true mid now later keeps grows =
+    let t = keeps refl in let u = grows t in rw (t, u) (omega arith)
+ones_join false true now true keeps grows = let u = grows refl in rw u refl
+ones_join false true now false keeps grows = let u = grows refl in rw u refl
+ones_join false false now later keeps grows = omega arith
+
+not_twice : (a b : Bool) → (a && not a && b) ≡ false
+not_twice true b = refl
+not_twice false b = refl
+
+line_when : (b : Bool) (s : Party) (own m : List ℕ) → (b ≡ true → own ≡ m)
+    → (if b then From s own ∷ [] else []) ≡ line_if b s m
+line_when true s own m same = ap (λ (t : List ℕ). From s t ∷ []) (same refl)
+line_when false s own m same = refl
+
+length_when : (b : Bool) (s : Party) (m : List ℕ) → length (line_if b s m) ≡ one_if b
+length_when true s m = refl
+length_when false s m = refl
+
+-- ---- one piece, and more
+
+of_piece : (messages : List (List ℕ)) (a to p j : ℕ) (m : List ℕ) (i : ℕ) → EachCarries
+    → slice_get messages j ≡ Some m → i < pieces m → IsPieceOf messages (piece_of a to p j m i)
+of_piece messages a to p j m i carries there lt = record {
+  message = m;
+  there = there;
+  within = lt;
+  last = refl;
+  bytes = carries a to p j m i;
+}
+
+own_list : (h : ℕ → List PieceView) (x : PieceView) (a : ℕ) → x.from ≡ a
+    → with_piece h x a ≡ x ∷ h a
+own_list h x a same = rw (yes x.from a same) refl
+
+other_list : (h : ℕ → List PieceView) (x : PieceView) (a b : ℕ) → x.from ≡ a → b ≢ a
+    → with_piece h x b ≡ h b
+other_list h x a b same differ =
+    rw (no x.from b (λ e. differ (sym e ∙ same))) refl
+
+piece_lines : (messages : List (List ℕ)) (partition : ℕ) (h : List PieceView)
+    (arrived : List (ℕ × ℕ)) (x : PieceView) (m : List ℕ) → PiecesHold
+    → AreGenuine messages h arrived → IsPieceOf messages x → slice_get messages x.message ≡ Some m
+    → lines_of_piece partition h x
+    ≡ line_if (is_new m arrived ((x.message, x.piece) ∷ arrived) x.message)
+    (party_at partition x.from) m
+piece_lines messages partition h arrived x m hold g p is =
+    let now = (x.message, x.piece) ∷ arrived in
+    let g' : AreGenuine messages (x ∷ h) now = one_more messages h arrived x g p in
+    line_when (completes h x) (party_at partition x.from) (body (x ∷ h) x.message) m
+    (body_if messages h now x m hold g' is)
+    ∙ ap (λ b. line_if b (party_at partition x.from) m)
+    (completes_when messages h arrived now x m g g' is)
+
+-- the desk hears pieces, whatever frames they came in
+abbrev pub heard_pieces : ℕ → ℕ → ℕ → ℕ → List ℕ → DeskState → List ℕ → DeskState
+heard_pieces a to p j m st [] = st
+heard_pieces a to p j m st (i ∷ places) =
+    heard_pieces a to p j m (heard st (Ours (piece_of a to p j m i))) places
+
+pub hears_pieces : (a to p j : ℕ) (m : List ℕ) (g : ℕ → List ℕ) (places : List ℕ) (st : DeskState)
+    → does st (hearings (map g places) (map (λ i. Ours (piece_of a to p j m i)) places))
+    ≡ heard_pieces a to p j m st places
+hears_pieces a to p j m g [] st = refl
+hears_pieces a to p j m g (i ∷ places) st =
+    hears_pieces a to p j m g places (heard st (Ours (piece_of a to p j m i)))
+
+pub heard_some : (messages : List (List ℕ)) (a to p j : ℕ) (m places : List ℕ)
+    (arrived : List (ℕ × ℕ)) (st : DeskState) → EachCarries → PiecesHold
+    → slice_get messages j ≡ Some m → AllByRecursion (λ i. i < pieces m) places
+    → AreGenuine messages (st.heard a) arrived
+    → HeardSome messages a j m places arrived st (heard_pieces a to p j m st places)
+heard_some messages a to p j m [] arrived st carries hold there within g =
+    let none = not_twice (has_all (Some m) arrived j) (not (has_later arrived j)) in
+    record {
+      address = refl;
+      partition = refl;
+      frame = refl;
+      streams = refl;
+      wire = refl;
+      lines = sym (ap (λ b. st.lines ++ line_if b (party_at st.partition a) m) none
+          ∙ append-nil st.lines);
+      ours = omega arith;
+      given = let e : one_if (is_new m arrived arrived j) ≡ 0 = ap one_if none in omega (arith, e);
+      genuine = g;
+      others = λ b differ. refl;
+    }
+heard_some messages a to p j m (i ∷ places) arrived st carries hold there within g =
+    let x = piece_of a to p j m i in
+    let piece = of_piece messages a to p j m i carries there within.0 in
+    let next = heard st (Ours x) in
+    let mid = (j, i) ∷ arrived in
+    let g' : AreGenuine messages (next.heard a) mid =
+    subst (λ h. AreGenuine messages h mid) (sym (own_list st.heard x a refl))
+    (one_more messages (st.heard a) arrived x g piece) in
+    let more = heard_some messages a to p j m places mid next carries hold there within.1 g' in
+    let s = party_at st.partition a in
+    let now = in_places j (i ∷ places) ++ arrived in
+    let was_all = has_all (Some m) arrived j in
+    let mid_all = has_all (Some m) mid j in
+    let now_all = has_all (Some m) now j in
+    let later = has_later arrived j in
+    let moved : has_all (Some m) (in_places j places ++ mid) j ≡ now_all =
+    all_alike (has_piece (in_places j places ++ mid) j) (has_piece now j)
+    (range_with_len 0 (pieces m))
+    (λ k. any_moved (λ q. q.0 == j && q.1 == k) (in_places j places) (j, i) arrived) in
+    let mid_later : has_later mid j ≡ later = later_same j (i ∷ []) arrived in
+    let second : is_new m mid (in_places j places ++ mid) j
+    ≡ (now_all && not mid_all && not later) =
+    ap (λ b. b && not mid_all && not (has_later mid j)) moved
+    ∙ ap (λ b. now_all && not mid_all && not b) mid_later in
+    let keeps : was_all ≡ true → mid_all ≡ true = all_still m ((j, i) ∷ []) arrived j in
+    let grows : mid_all ≡ true → now_all ≡ true =
+    λ h. sym moved ∙ all_still m (in_places j places) mid j h in
+    let own_line : lines_of_piece st.partition (st.heard a) x ≡ line_if (is_new m arrived mid j) s m =
+    piece_lines messages st.partition (st.heard a) arrived x m hold g piece there in
+    record {
+      address = more.address;
+      partition = more.partition;
+      frame = more.frame;
+      streams = more.streams;
+      wire = more.wire;
+      lines = more.lines
+          ∙ ap₂ (λ (l : List OutLine) (b : Bool). (st.lines ++ l) ++ line_if b s m) own_line second
+          ∙ append_assoc st.lines (line_if (is_new m arrived mid j) s m)
+          (line_if (now_all && not mid_all && not later) s m)
+          ∙ ap (λ l. st.lines ++ l) (lines_join s m was_all mid_all now_all later keeps grows);
+      ours = let e = more.ours in omega (arith, e);
+      given =
+          let e = more.given in
+          let first : length (lines_of_piece st.partition (st.heard a) x)
+          ≡ one_if (is_new m arrived mid j) =
+          ap length own_line ∙ length_when (is_new m arrived mid j) s m in
+          let last : one_if (is_new m mid (in_places j places ++ mid) j)
+          ≡ one_if (now_all && not mid_all && not later) = ap one_if second in
+          omega (arith, e, first, last, ones_join was_all mid_all now_all later keeps grows);
+      genuine = same_arrived messages (more_heard more) (in_places j places ++ mid) now more.genuine
+          (λ k l. sym (any_moved (λ q. q.0 == k && q.1 == l) (in_places j places) (j, i) arrived))
+          (λ k. sym (any_moved (λ q. nat_lt k q.0) (in_places j places) (j, i) arrived));
+      others = λ b differ. more.others b differ ∙ other_list st.heard x a b refl differ;
+    }
+  where
+    more_heard : {messages' : List (List ℕ)} {a' j' : ℕ} {m' places' : List ℕ}
+        {arrived' : List (ℕ × ℕ)} {old new : DeskState}
+        → HeardSome messages' a' j' m' places' arrived' old new → List PieceView
+    more_heard {a' = a'} {new = new} r = new.heard a'

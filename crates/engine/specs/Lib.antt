@@ -1,7 +1,8 @@
-pub mod PieceNames
 pub mod Genuine
-pub mod DeskView
-pub mod Desks
-pub mod Standing
+pub mod Handed
+pub mod Turns
+pub mod States
+pub mod Slots
 pub mod ReportView
 pub mod Reports
+pub mod inside

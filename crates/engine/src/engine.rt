@@ -1,188 +1,127 @@
-ghost use Rattle.std.specs.Prelude.{◌≡◌, ℕ, ◌<◌, List, [], ◌∷◌, length, reverse, OnOk, IfOk, true, false};
-ghost use Rattle.std.specs.List.{AllByRecursion};
-ghost use Rattle.levels.specs.declared.level.Party.TheVariants.{Host};
-ghost use Rattle.levels.specs.Rosters.{partition_of, level_of};
-ghost use Rattle.events.specs.declared.event.Event.{Event};
-ghost use Rattle.events.specs.Scripts.{is_known, is_named};
-ghost use Rattle.lattice_machine.specs.Told.{told_within};
-ghost use Rattle.script.specs.Today.{IsHost, IsBetweenHosts};
-ghost use Rattle.engine.specs.Reports.{lines_of};
-ghost use Rattle.engine.specs.Standing.{number_in, between, Stands};
+ghost use Rattle.std.specs.Prelude.{◌≡◌, ◌<◌, [], ◌++◌, length, option_to_list, IfOk, OnOk};
+ghost use Rattle.machine.specs.Setup.{setup_of, sealer};
+ghost use Rattle.engine.specs.Reports.{StopsEarly, EndsRun};
+ghost use Rattle.engine.specs.inside.Scripted.{stop_at, EndsFollowing};
+ghost use Rattle.engine.specs.inside.Standing.{NetworkStands};
 
-use crate::desks::Desks;
+use crate::halt::Halt;
+use crate::machine_laws::machine_laws;
+use crate::merging::{SentRow, merge_all};
 use crate::network::Network;
-use crate::pieces::PieceName;
-use events::{Event, Script, Stream};
-use lattice_machine::{OutLine, only_low_events_count};
-use levels::{Party, Roster};
+use crate::report::{EngineStop, Report};
+use crate::script_laws::{script_laws, sealing_laws};
+use des_cbc::DesSeal;
+use events::Script;
+use levels::Sealing;
+use ring_link::Gate;
+use seal_core::{ClearSeal, Seal};
 use std::alloc::{AllocError, Global};
 use std::marker::Model;
 use std::thread::Threads;
 
-/// A script, and the network of its hosts before anything happened.
+/// A script that is to be run.
 #[derive(Drop)]
 pub struct Engine {
+    alloc: Global,
     script: Script,
-    network: Network,
 }
 
 impl Model for Engine {
-    ghost use Rattle.std.specs.Prelude.{[]};
     ghost use Rattle.events.specs.ScriptView.{ScriptView};
 
     ghost Value = { ScriptView };
 
     ghost view = { λ a. a.script };
-
-    ghost use Rattle.engine.specs.Standing.{Stands};
-
-    ghost invariant = { λ a. Stands a.script.roster [] a.network };
 }
 
-/// What each host was told in a run.
-#[derive(Drop)]
-pub struct Report {
-    script: Script,
-    desks: Desks,
-}
-
-impl Model for Report {
-    ghost use Rattle.std.specs.Prelude.{map};
-    ghost use Rattle.engine.specs.ReportView.{ReportView};
-    ghost use Rattle.engine.specs.Desks.{lines_in};
-
-    ghost Value = { ReportView };
-
-    ghost view = { λ a. record { script = a.script; lines = map lines_in a.desks } };
-}
-
-/// The address of a party that is a host.
-fn host_of(party: Party) -> u8
-    requires { IsHost party }
-    ensures { party ≡ Host result }
+/// What an event made a party send is kept.
+fn keep(sent: &mut Vec<SentRow>, row: Option<SentRow>) -> Result<(), AllocError>
+    ensures { OnOk result (sent.new.items ≡ sent.old.items ++ option_to_list row) }
 {
-    match party {
-        Party::Host(address) => address,
-        Party::Manager(_) => unreachable!(),
-    }
-}
-
-/// The number of a host's partition.
-fn partition_of(roster: &Roster, address: u8) -> u8
-    ensures { result ≡ number_in (partition_of roster.now (Host address)) }
-{
-    match roster.partition_of(Party::Host(address)) {
-        Some(partition) => partition.0,
-        None => 0,
-    }
-}
-
-fn name_of(stream: Stream, message: u32, piece: u8) -> PieceName
-    requires from { IsHost stream.from }
-    requires to { IsHost stream.to }
-    ensures stream { stream ≡ between result.from result.to }
-    ensures message { result.message ≡ message }
-    ensures piece { result.piece ≡ piece }
-{
-    PieceName {
-        from: host_of(stream.from),
-        to: host_of(stream.to),
-        message,
-        piece,
-    }
-}
-
-/// One event happens.
-fn step(
-    network: &mut Network,
-    alloc: Global,
-    roster: &Roster,
-    event: &Event,
-) -> Result<(), AllocError>
-    requires named { is_named roster.now event.now ≡ true }
-    requires plain { IsBetweenHosts event.now }
-    ensures { OnOk result ((past : List Event) → length past < 100000
-        → Stands roster.now past network.old → Stands roster.now (event.now ∷ past) network.new) }
-{
-    match event {
-        Event::Send { from, to, message } => {
-            let partition = partition_of(roster, *from);
-            network.send(*from, partition, host_of(*to), message.bytes())
-        }
-        Event::Arrive {
-            stream,
-            message,
-            piece,
-            at,
-        } => network.arrive(alloc, name_of(*stream, *message, *piece), host_of(*at)),
-        Event::Carry {
-            stream,
-            message,
-            at,
-        } => {
-            let first = name_of(*stream, *message, 0);
-            network.carry(alloc, first.from, first.to, *message, host_of(*at))
-        }
-        Event::Ask { .. } | Event::Forge { .. } | Event::Tamper { .. } => Ok(()),
-    }
-}
-
-/// All events happen, in order.
-fn follow(network: &mut Network, alloc: Global, script: &Script) -> Result<(), AllocError>
-    requires plain { AllByRecursion IsBetweenHosts script.now.events }
-    requires stands { Stands script.now.roster [] network.old }
-    ensures { OnOk result (Stands script.now.roster (reverse script.now.events) network.new) }
-{
-    let roster = script.roster();
-    for event in script.events() {
-        step(network, alloc, roster, event)?;
+    if let Some(row) = row {
+        sent.push(row)?;
     }
     Ok(())
 }
 
-impl Engine {
-    /// Opens a host side for each host of a script.
-    pub fn open(alloc: Global, script: Script) -> Result<Engine, AllocError>
-        ensures { IfOk result (λ engine. engine ≡ script) }
-    {
-        let network = Network::open(alloc, script.roster())?;
-        Ok(Engine { script, network })
-    }
-
-    /// Runs the script: each host is told what the lattice machine tells it on the events at or
-    /// below its level.
-    pub fn run<R: Threads>(self, rt: &R, alloc: Global) -> Result<Report, AllocError>
-        requires { AllByRecursion IsBetweenHosts self.events }
-        ensures script { IfOk result (λ report. report.script ≡ self) }
-        ensures strangers { IfOk result (λ report. (a : ℕ) → a < 256 →
-            is_known self.roster (Host a) ≡ false → lines_of report a ≡ []) }
-        ensures lines { IfOk result (λ report. (a : ℕ) → is_known self.roster (Host a) ≡ true
-            → lines_of report a ≡ told_within self.roster self.events (Host a)
-            (level_of self.roster (Host a))) }
-    {
-        only_low_events_count();
-        let Engine {
-            script,
-            mut network,
-        } = self;
-        follow(&mut network, alloc, &script)?;
-        let desks = network.into_desks();
-        Ok(Report { script, desks })
+/// Why a run stops that halts at an event.
+fn stop_at(script: &Script, event: u32, halt: Halt) -> EngineStop
+    requires { event < length script.now.events }
+    ensures { result ≡ stop_at script.now event halt }
+{
+    match halt {
+        Halt::Opened => EngineStop::Opened(script.line_of(event)),
+        Halt::OutOfMemory => EngineStop::OutOfMemory,
     }
 }
 
-impl Report {
-    /// The script that was run.
-    pub fn script(&self) -> &Script
-        ensures { result.now ≡ self.now.script }
+/// All events of a script happen, one after another.
+fn follow<S: Seal + Send + Sync + Copy, R: Threads, G: Gate + Sync>(
+    rt: &R,
+    gate: &G,
+    script: &Script,
+    network: &mut Network<S>,
+    sent: &mut Vec<SentRow>,
+) -> Result<(), EngineStop>
+    requires sealing { sealer script.now.roster.sealing ≡ S.sealed_text }
+    requires start { NetworkStands (setup_of script.now) [] network.old.desks network.old.files }
+    requires none { sent.old.items ≡ [] }
+    ensures { EndsFollowing script.now network.new.desks network.new.files sent.new.items result }
+{
+    machine_laws();
+    script_laws();
+    sealing_laws::<S>();
+    for (number, event) in script.events().iter().enumerate() {
+        match network.step(rt, gate, script.roster(), event) {
+            Ok(row) => keep(sent, row)?,
+            Err(halt) => return Err(stop_at(script, number as u32, halt)),
+        }
+    }
+    Ok(())
+}
+
+/// Runs a script over units that seal like this.
+fn run_sealed<S: Seal + Send + Sync + Copy, R: Threads, G: Gate + Sync>(
+    alloc: Global,
+    rt: &R,
+    gate: &G,
+    seal: S,
+    script: Script,
+) -> Result<Report, EngineStop>
+    requires { sealer script.roster.sealing ≡ S.sealed_text }
+    ensures { EndsRun script result }
+{
+    machine_laws();
+    script_laws();
+    sealing_laws::<S>();
+    let mut network = Network::open(alloc, seal, &script)?;
+    let mut sent = Vec::new(alloc);
+    follow(rt, gate, &script, &mut network, &mut sent)?;
+    network.flush_all(rt, gate)?;
+    let closed = network.desks.close(alloc)?;
+    let frames = merge_all(alloc, &sent, &closed.wires)?;
+    Ok(Report {
+        script,
+        lines: closed.lines,
+        frames,
+        tallies: closed.tallies,
+    })
+}
+
+impl Engine {
+    pub fn open(alloc: Global, script: Script) -> Result<Engine, AllocError>
+        ensures { IfOk result (λ engine. engine ≡ script) }
     {
-        &self.script
+        Ok(Engine { alloc, script })
     }
 
-    /// What the host of an address was told. An address that is no host's has no lines.
-    pub fn lines_of(&self, address: u8) -> &[OutLine]
-        ensures { result.now ≡ lines_of self.now address }
+    /// Runs the script over a unit for each host and for each level's manager.
+    pub fn run<R: Threads, G: Gate + Sync>(self, rt: &R, gate: &G) -> Result<Report, EngineStop>
+        ensures { EndsRun self result }
     {
-        self.desks.lines(address)
+        match self.script.roster().sealing() {
+            Sealing::Clear => run_sealed(self.alloc, rt, gate, ClearSeal, self.script),
+            Sealing::Des => run_sealed(self.alloc, rt, gate, DesSeal, self.script),
+        }
     }
 }

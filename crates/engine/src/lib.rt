@@ -1,14 +1,23 @@
-//! Runs a script: a unit's host side for each host, and the pieces that the network hands over.
+//! Runs a script over a unit for each host and for each level's manager.
 #![tactic(auto)]
 
-mod desk;
+mod alone;
+mod closing;
 mod desks;
 mod engine;
+mod halt;
+mod judging;
+mod machine_laws;
+mod merging;
 mod network;
-mod pieces;
+mod opening;
+mod report;
+mod script_laws;
+mod slots;
+mod step;
 
-pub use engine::{Engine, Report};
-pub use lattice_machine::OutLine;
+pub use engine::Engine;
+pub use report::{EngineStop, Report};
 
 #[cfg(test)]
 mod tests;

@@ -5,21 +5,28 @@ use Rattle.std.specs.Fmt.{decimal}
 use Rattle.std.specs.Io.KnownBytes.{Keeps, Appends, IsAtEnd}
 use Rattle.dss_io.specs.Writing.{AppendsProperPrefix}
 use Rattle.events.specs.ScriptView.{ScriptView}
+use Rattle.events.specs.Scripts.{line_of}
+use Rattle.script.specs.declared.read.TheConstants.{TEXT_LIMIT}
 use Rattle.script.specs.declared.refusal.Refusal.{Refusal}
 use Rattle.script.specs.declared.refusal.Reason.{Reason}
 use Rattle.script.specs.declared.refusal.Reason.TheVariants as reason
 use Rattle.script.specs.Reasons.{FirstRefusal, IsScriptOf}
-use Rattle.lattice_machine.specs.Text.{line, text}
+use Rattle.machine.specs.FalseBytes.{NoneFalse, IsFirstFalse}
+use Rattle.machine.specs.Text.{line, text, wire_text}
 use Rattle.replay.specs.declared.command.Command.{Command}
-use Rattle.replay.specs.declared.command.Command.TheVariants.{Replay, Check}
+use Rattle.replay.specs.declared.command.Command.TheVariants.{Check, Run}
+use Rattle.replay.specs.declared.command.Shown.{Shown}
+use Rattle.replay.specs.declared.command.Shown.TheVariants.{Hosts, Wire}
 use Rattle.replay.specs.declared.status.Status.{Status}
-use Rattle.replay.specs.declared.status.Status.TheVariants.{Fine, Usage, Refused, ReadFault, WriteFault, OutOfMemory}
+use Rattle.replay.specs.declared.status.Status.TheVariants.{Fine, Usage, Refused, ReadFault, WriteFault, Opened, OutOfMemory}
 
 -- what one word asks for
 abbrev pub command_named : List ℕ → Option Command
 command_named word =
-    if bytes_eq word (codes "replay") then Some Replay
-    else (if bytes_eq word (codes "check") then Some Check else None)
+    if bytes_eq word (codes "replay") then Some (Run Hosts)
+    else if bytes_eq word (codes "check") then Some Check
+    else if bytes_eq word (codes "wire") then Some (Run Wire)
+    else None
 
 -- what the words ask for, if they have one of the forms
 abbrev pub command_of : List (List ℕ) → Option Command
@@ -39,6 +46,10 @@ abbrev pub refused_line : Refusal → List ℕ
 refused_line refusal =
     line (codes "refused" ∷ decimal refusal.line ∷ reason_word refusal.reason ∷ [])
 
+-- the refusal of an input that is too long
+abbrev pub too_long : Refusal
+too_long = record { line = 0; reason = reason.Many }
+
 -- how many levels, hosts, plan rows and events a script has
 abbrev pub check_line : ScriptView → List ℕ
 check_line script = line
@@ -47,19 +58,37 @@ check_line script = line
     ∷ codes "store" ∷ decimal (length script.rows)
     ∷ codes "events" ∷ decimal (length script.events) ∷ [])
 
+-- the line of the script at which false bytes opened
+abbrev pub opened_line : ℕ → List ℕ
+opened_line number = line (codes "opened" ∷ decimal number ∷ [])
+
+-- what is shown of a script that was run: its text, or its wire
+abbrev pub shown_text : Shown → ScriptView → List ℕ
+shown_text Hosts script = text script
+shown_text Wire script = wire_text script
+
 -- the status and the text that are due for an input and what the words ask for, by cases
 pub data Due (bytes : List ℕ) : Option Command → Status → List ℕ → Type 0 where
   -- the words have none of the forms
   usage : Due bytes None Usage []
+  -- the input is too long
+  long : (command : Command) → TEXT_LIMIT < length bytes
+      → Due bytes (Some command) (Refused too_long) (refused_line too_long)
   -- the input is no script
   refused : (command : Command) (refusal : Refusal) → FirstRefusal bytes refusal
       → Due bytes (Some command) (Refused refusal) (refused_line refusal)
   -- the counts of a script
   checked : (script : ScriptView) → IsScriptOf bytes script
       → Due bytes (Some Check) Fine (check_line script)
-  -- what the lattice machine tells the hosts of a script
-  replayed : (script : ScriptView) → IsScriptOf bytes script
-      → Due bytes (Some Replay) Fine (text script)
+  -- the first event of a script at which false bytes open, by its line
+  opened : (shown : Shown) (script : ScriptView) (event : ℕ) → IsScriptOf bytes script
+      → IsFirstFalse script event
+      → Due bytes (Some (Run shown)) (Opened (line_of script event))
+      (opened_line (line_of script event))
+  -- what the lattice machine tells the hosts of a script, or its frames, where no false bytes open
+  run : (shown : Shown) (script : ScriptView) → IsScriptOf bytes script
+      → NoneFalse script (length script.events)
+      → Due bytes (Some (Run shown)) Fine (shown_text shown script)
 
 -- something is due with this status, and all of its text was written
 abbrev pub WritesAll :
@@ -81,6 +110,7 @@ Delivers due Usage old new = WritesAll due Usage old new
 Delivers due (Refused refusal) old new = WritesAll due (Refused refusal) old new
 Delivers due ReadFault old new = Keeps old new
 Delivers due WriteFault old new = WritesBeginning due old new
+Delivers due (Opened line') old new = WritesAll due (Opened line') old new
 Delivers due OutOfMemory old new = Keeps old new ⊎ WritesBeginning due old new
 
 -- neither a fault nor want of memory
@@ -90,10 +120,12 @@ IsAnswer Usage = Unit {0}
 IsAnswer (Refused refusal) = Unit {0}
 IsAnswer ReadFault = ⊥
 IsAnswer WriteFault = ⊥
+IsAnswer (Opened line') = Unit {0}
 IsAnswer OutOfMemory = ⊥
 
 -- the input was read to its end where it is answered, unless it is refused as a whole, at line 0
 abbrev pub ReadsToEnd : Status → Option (List ℕ) → Type 0
 ReadsToEnd Fine left = IsAtEnd left
 ReadsToEnd (Refused refusal) left = 0 < refusal.line → IsAtEnd left
+ReadsToEnd (Opened line') left = IsAtEnd left
 ReadsToEnd _ left = Unit {0}

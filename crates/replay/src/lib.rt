@@ -6,6 +6,7 @@ mod owed;
 mod print;
 mod status;
 mod top;
+mod wire;
 
 pub use status::Status;
 pub use top::run;

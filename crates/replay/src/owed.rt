@@ -1,25 +1,26 @@
-ghost use Rattle.std.specs.Prelude.{◌≡◌, IfOk, Some};
-ghost use Rattle.lattice_machine.specs.Text.{text};
-ghost use Rattle.replay.specs.Due.{reason_word, refused_line, check_line, Due};
-ghost use Rattle.replay.specs.declared.status.Status.TheVariants.{Fine, Refused};
-ghost use Rattle.replay.specs.inside.Owing.{text_for};
-ghost use Rattle.script.specs.Today.{IsBetweenHosts};
-ghost use Rattle.std.specs.List.{AllByRecursion};
+ghost use Rattle.std.specs.Prelude.{◌≡◌, IfOk, None};
+ghost use Rattle.engine.specs.Reports.{IsReport, StopsAt};
+ghost use Rattle.replay.specs.Due.{reason_word, refused_line, check_line, opened_line, shown_text};
+ghost use Rattle.replay.specs.declared.command.Command.TheVariants.{Check, Run};
+ghost use Rattle.replay.specs.declared.status.Status.TheVariants.{Refused};
+ghost use Rattle.replay.specs.inside.Owing.{IsOwedFor, IsOwedOf};
 
-use crate::command::Command;
-use crate::print;
+use crate::command::{Command, Shown};
 use crate::status::Status;
-use engine::Engine;
+use crate::{print, wire};
+use engine::{Engine, EngineStop, Report};
 use events::push_number;
+use ring_link::Gate;
 use script::{Reason, Refusal, Script, ScriptRefused, read_script};
 use std::alloc::{AllocError, Global};
 use std::thread::Threads;
 
-/// The status and the text that are due.
+/// The status and the text that are due, and the report that goes with them.
 #[derive(Drop)]
 pub struct Owed {
     pub status: Status,
     pub text: Vec<u8>,
+    pub report: Option<Report>,
 }
 
 fn reason_word(reason: Reason) -> &'static [u8]
@@ -67,67 +68,125 @@ fn check_line(alloc: Global, script: &Script) -> Result<Vec<u8>, AllocError>
     Ok(line)
 }
 
-fn replay_text<R: Threads>(rt: &R, alloc: Global, script: Script) -> Result<Vec<u8>, AllocError>
-    requires { AllByRecursion IsBetweenHosts script.events }
-    ensures { IfOk result (λ written. written.items ≡ text script) }
+fn opened_line(alloc: Global, number: u32) -> Result<Vec<u8>, AllocError>
+    ensures { IfOk result (λ line. line.items ≡ opened_line number) }
 {
-    let report = Engine::open(alloc, script)?.run(rt, alloc)?;
-    print::text(alloc, &report)
+    let mut line = Vec::new(alloc);
+    line.extend_from_slice(b"opened ".as_slice())?;
+    push_number(alloc, &mut line, number)?;
+    line.extend_from_slice(b"\n".as_slice())?;
+    Ok(line)
 }
 
-fn text_for<R: Threads>(
-    rt: &R,
-    alloc: Global,
-    command: Command,
-    script: Script,
-) -> Result<Vec<u8>, AllocError>
-    requires { AllByRecursion IsBetweenHosts script.events }
-    ensures { IfOk result (λ written. written.items ≡ text_for command script) }
+fn shown_text(alloc: Global, shown: Shown, report: &Report) -> Result<Vec<u8>, AllocError>
+    requires { IsReport report.now.script report.now }
+    ensures { IfOk result (λ written. written.items ≡ shown_text shown report.now.script) }
 {
-    match command {
-        Command::Replay => replay_text(rt, alloc, script),
-        Command::Check => check_line(alloc, &script),
+    match shown {
+        Shown::Hosts => print::text(alloc, report),
+        Shown::Wire => wire::wire(alloc, report),
     }
 }
 
 /// What is due for an input that is refused.
 pub fn refusal_owed(alloc: Global, refusal: Refusal) -> Result<Owed, AllocError>
-    ensures { IfOk result (λ owed.
-        (owed.status ≡ Refused refusal) × (owed.text.items ≡ refused_line refusal)) }
+    ensures { IfOk result (λ owed. (owed.status ≡ Refused refusal)
+        × (owed.text.items ≡ refused_line refusal) × (owed.report ≡ None)) }
 {
-    let text = refused_line(alloc, refusal)?;
-    let status = Status::Refused(refusal);
-    Ok(Owed { status, text })
+    Ok(Owed {
+        status: Status::Refused(refusal),
+        text: refused_line(alloc, refusal)?,
+        report: None,
+    })
 }
 
-fn script_owed<R: Threads>(
+/// What is due where a script is checked.
+fn counts_owed(alloc: Global, script: &Script) -> Result<Owed, AllocError>
+    ensures { IfOk result (λ owed.
+        IsOwedOf script.now Check owed.status owed.text.items owed.report) }
+{
+    Ok(Owed {
+        status: Status::Fine,
+        text: check_line(alloc, script)?,
+        report: None,
+    })
+}
+
+/// What is due where false bytes opened.
+fn opened_owed(alloc: Global, number: u32) -> Result<Owed, AllocError>
+    ensures { IfOk result (λ owed. (owed.status ≡ Status.Opened number)
+        × (owed.text.items ≡ opened_line number) × (owed.report ≡ None)) }
+{
+    Ok(Owed {
+        status: Status::Opened(number),
+        text: opened_line(alloc, number)?,
+        report: None,
+    })
+}
+
+/// What is due for a script that was run to its end.
+fn report_owed(alloc: Global, shown: Shown, report: Report) -> Result<Owed, AllocError>
+    requires { IsReport report.script report }
+    ensures { IfOk result (λ owed.
+        IsOwedOf report.script (Run shown) owed.status owed.text.items owed.report) }
+{
+    let text = shown_text(alloc, shown, &report)?;
+    Ok(Owed {
+        status: Status::Fine,
+        text,
+        report: Some(report),
+    })
+}
+
+/// Runs a script, and answers what is due for it.
+fn run_owed<R: Threads, G: Gate + Sync>(
+    rt: &R,
+    alloc: Global,
+    shown: Shown,
+    script: Script,
+    gate: &G,
+) -> Result<Owed, AllocError>
+    ensures { IfOk result (λ owed.
+        IsOwedOf script (Run shown) owed.status owed.text.items owed.report) }
+{
+    match Engine::open(alloc, script)?.run(rt, gate) {
+        Ok(report) => report_owed(alloc, shown, report),
+        Err(EngineStop::Opened(number)) => opened_owed(alloc, number),
+        Err(EngineStop::OutOfMemory) => Err(AllocError),
+    }
+}
+
+fn script_owed<R: Threads, G: Gate + Sync>(
     rt: &R,
     alloc: Global,
     command: Command,
     script: Script,
+    gate: &G,
 ) -> Result<Owed, AllocError>
-    requires { AllByRecursion IsBetweenHosts script.events }
     ensures { IfOk result (λ owed.
-        (owed.status ≡ Fine) × (owed.text.items ≡ text_for command script)) }
+        IsOwedOf script command owed.status owed.text.items owed.report) }
 {
-    let text = text_for(rt, alloc, command, script)?;
-    let status = Status::Fine;
-    Ok(Owed { status, text })
+    match command {
+        Command::Check => counts_owed(alloc, &script),
+        Command::Run(shown) => run_owed(rt, alloc, shown, script, gate),
+    }
 }
 
 /// What is due for an input.
-pub fn answer_to<R: Threads>(
+pub fn answer_to<R: Threads, G: Gate + Sync>(
     rt: &R,
     alloc: Global,
     command: Command,
     bytes: Vec<u8>,
+    gate: &G,
 ) -> Result<Owed, AllocError>
-    ensures { IfOk result (λ owed. Due bytes.items (Some command) owed.status owed.text.items) }
+    ensures { IfOk result (λ owed.
+        IsOwedFor bytes.items command owed.status owed.text.items owed.report) }
 {
     match read_script(alloc, &bytes) {
         Ok(script) => {
             drop(bytes);
-            script_owed(rt, alloc, command, script)
+            script_owed(rt, alloc, command, script, gate)
         }
         Err(ScriptRefused::Refused(refusal)) => refusal_owed(alloc, refusal),
         Err(ScriptRefused::OutOfMemory) => Err(AllocError),

@@ -3,21 +3,23 @@ ghost use Rattle.std.specs.List.{flat_map};
 ghost use Rattle.levels.specs.declared.level.Party.TheVariants.{Manager};
 ghost use Rattle.levels.specs.Rosters.{host_row};
 ghost use Rattle.events.specs.Words.{party_word};
-ghost use Rattle.lattice_machine.specs.Text.{refusal_word, told_text, heading, host_text, due_at, text_to, text};
-ghost use Rattle.lattice_machine.specs.declared.line.OutLine.TheVariants.{Sent, Refused, From};
-ghost use Rattle.replay.specs.inside.Reports.{IsReport};
+ghost use Rattle.machine.specs.Text.{refusal_word, told_text, heading, host_text, text};
+ghost use Rattle.machine.specs.declared.line.OutLine.TheVariants.{Sent, Refused, From};
+ghost use Rattle.engine.specs.Reports.{IsReport};
+ghost use Rattle.replay.specs.inside.Printing.{due_at, text_to};
 
 use engine::Report;
 use events::{Body, push_hex, push_number};
 use frame::SendRefused;
-use lattice_machine::OutLine;
 use levels::{Partition, Party, Roster};
+use machine::OutLine;
 use std::alloc::{AllocError, Global};
 
 /// The greatest address of a host.
 const LAST_ADDRESS: u8 = 250;
 
-fn push_party(
+/// Appends a host's address, or the name of a manager unit's level.
+pub fn push_party(
     alloc: Global,
     out: &mut Vec<u8>,
     roster: &Roster,
@@ -160,7 +162,7 @@ fn push_host_at(
     report: &Report,
     address: u8,
 ) -> Result<(), AllocError>
-    requires { IsReport report.now }
+    requires { IsReport report.now.script report.now }
     ensures { OnOk result (out.new.items ≡ out.old.items
         ++ due_at report.now.script (host_row report.now.script.roster address)) }
 {
@@ -181,7 +183,7 @@ fn push_host_at(
 /// What is due to the hosts of the addresses from 1 to the last.
 fn text_to(alloc: Global, report: &Report, last: u8) -> Result<Vec<u8>, AllocError>
     requires last { last < 255 }
-    requires report { IsReport report.now }
+    requires report { IsReport report.now.script report.now }
     ensures { IfOk result (λ written. written.items ≡ text_to report.now.script last) }
 {
     let mut out = Vec::new(alloc);
@@ -193,7 +195,7 @@ fn text_to(alloc: Global, report: &Report, last: u8) -> Result<Vec<u8>, AllocErr
 
 /// The text of a run: what each host was told, in rising order of address.
 pub fn text(alloc: Global, report: &Report) -> Result<Vec<u8>, AllocError>
-    requires { IsReport report.now }
+    requires { IsReport report.now.script report.now }
     ensures { IfOk result (λ written. written.items ≡ text report.now.script) }
 {
     text_to(alloc, report, LAST_ADDRESS)

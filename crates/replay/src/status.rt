@@ -14,6 +14,9 @@ pub enum Status {
     Refused(Refusal),
     ReadFault,
     WriteFault,
+    /// At this line of the script false bytes opened: a forged frame that was never sent, a changed
+    /// frame, or a wrong answer of the store.
+    Opened(u32),
     OutOfMemory,
 }
 
@@ -28,6 +31,7 @@ impl Status {
             Status::Refused(_) => 2,
             Status::ReadFault => 3,
             Status::WriteFault => 4,
+            Status::Opened(_) => 5,
             Status::OutOfMemory => 6,
         }
     }

@@ -1,19 +1,33 @@
+mod false_bytes;
+mod faults;
+mod runs;
+mod units;
+
 use crate::{Status, run};
-use dss_io::{MemSink, MemSource, SureSink, SureSource};
+use dss_io::{Sink, Source, SureSink, SureSource};
+use ring_link::NoGate;
 use script::{Reason, Refusal};
 use std::alloc::{AllocError, Global};
 use std::process::Abort;
 use std::test::Fail;
 use std::thread::Threads;
 
-const HEAD: &str =
+/// The lines of two levels and four hosts, in front of the store's.
+pub const ROSTER: &str =
+    "dss 1\nlevel U 0 -\nlevel S 2 a\nhost 1 U\nhost 2 U\nhost 5 S\nhost 6 S\n";
+
+/// The same, and the beginning.
+pub const HEAD: &str =
     "dss 1\nlevel U 0 -\nlevel S 2 a\nhost 1 U\nhost 2 U\nhost 5 S\nhost 6 S\nbegin\n";
 
-const FIRST: &str = "send 1 2 6869\ndeliver 1>2#0.0 to 2\n";
+pub const FIRST: &str = "send 1 2 6869\ndeliver 1>2#0.0 to 2\n";
 
-const FIRST_TOLD: &str = "host 1 U\nsent 2 0\nhost 2 U\nfrom 1 6869\nhost 5 S\nhost 6 S\n";
+pub const FIRST_TOLD: &str = "host 1 U\nsent 2 0\nhost 2 U\nfrom 1 6869\nhost 5 S\nhost 6 S\n";
 
-fn joined(alloc: Global, parts: &[&str]) -> Result<Vec<u8>, AllocError> {
+/// What is told where the message doesn't come.
+pub const FIRST_LOST: &str = "host 1 U\nsent 2 0\nhost 2 U\nhost 5 S\nhost 6 S\n";
+
+pub fn joined(alloc: Global, parts: &[&str]) -> Result<Vec<u8>, AllocError> {
     let mut text = Vec::new(alloc);
     for part in parts {
         text.extend_from_slice(part.as_bytes())?;
@@ -21,7 +35,7 @@ fn joined(alloc: Global, parts: &[&str]) -> Result<Vec<u8>, AllocError> {
     Ok(text)
 }
 
-fn words(alloc: Global, parts: &[&str]) -> Result<Vec<String>, AllocError> {
+pub fn words(alloc: Global, parts: &[&str]) -> Result<Vec<String>, AllocError> {
     let mut words = Vec::new(alloc);
     for part in parts {
         words.push(String::from_str(alloc, part)?)?;
@@ -29,8 +43,23 @@ fn words(alloc: Global, parts: &[&str]) -> Result<Vec<String>, AllocError> {
     Ok(words)
 }
 
-/// Asks over objects that never fail, and compares the status and what is written.
-fn expect_bytes<R: Threads + Abort>(
+/// Asks over a source and a sink. Answers the status, and whether a report is kept.
+pub fn ask<R: Threads, S: Source, K: Sink>(
+    rt: &R,
+    alloc: Global,
+    asked: &[&str],
+    source: &mut S,
+    sink: &mut K,
+) -> Result<(Status, bool), AllocError> {
+    let words = words(alloc, asked)?;
+    let mut kept = None;
+    let answer = run(rt, alloc, &words, source, sink, &NoGate, &mut kept);
+    Ok((answer, kept.is_some()))
+}
+
+/// Asks over objects that never fail, and compares the status, what is written, and whether a
+/// report is kept.
+pub fn expect_bytes<R: Threads + Abort>(
     rt: &R,
     alloc: Global,
     asked: &[&str],
@@ -40,14 +69,15 @@ fn expect_bytes<R: Threads + Abort>(
 ) -> Result<(), AllocError> {
     let mut source = SureSource::new(alloc, input)?;
     let mut sink = SureSink::new(alloc);
-    let words = words(alloc, asked)?;
-    let answer = run(rt, alloc, &words, &mut source, &mut sink);
+    let (answer, is_kept) = ask(rt, alloc, asked, &mut source, &mut sink)?;
     assert_eq!(rt; answer, status);
     assert!(rt; sink.contents() == written);
+    let runs = asked.iter().all(|word| *word != "check");
+    assert_eq!(rt; is_kept, runs && status == Status::Fine);
     Ok(())
 }
 
-fn expect<R: Threads + Abort>(
+pub fn expect<R: Threads + Abort>(
     rt: &R,
     alloc: Global,
     asked: &[&str],
@@ -72,6 +102,10 @@ fn tells_each_host_what_it_is_to_be_told(rt: HostRuntime) -> Result<(), Fail> {
             "host 1 U\nrefused 5 nopartner\nrefused 1 nopartner\nhost 2 U\nhost 5 S\nhost 6 S\n",
         ),
         (
+            "send 1 S 00\n",
+            "host 1 U\nrefused S nopartner\nhost 2 U\nhost 5 S\nhost 6 S\n",
+        ),
+        (
             "send 1 2 -\ncarry 1>2#0 to 2\n",
             "host 1 U\nsent 2 0\nhost 2 U\nfrom 1 -\nhost 5 S\nhost 6 S\n",
         ),
@@ -85,12 +119,9 @@ fn tells_each_host_what_it_is_to_be_told(rt: HostRuntime) -> Result<(), Fail> {
         ),
         (
             "deliver 1>2#0.0 to 2\nsend 1 2 00\ndeliver 1>2#7.0 to 2\n",
-            "host 1 U\nsent 2 0\nhost 2 U\nhost 5 S\nhost 6 S\n",
+            FIRST_LOST,
         ),
-        (
-            "send 1 2 01\ndeliver 1>2#0.1 to 2\n",
-            "host 1 U\nsent 2 0\nhost 2 U\nhost 5 S\nhost 6 S\n",
-        ),
+        ("send 1 2 01\ndeliver 1>2#0.1 to 2\n", FIRST_LOST),
     ] {
         let input = joined(rt.alloc(), &[HEAD, events, "end\n"])?;
         expect(&rt, rt.alloc(), &["replay"], &input, Status::Fine, told)?;
@@ -210,47 +241,105 @@ fn checks_a_script(rt: HostRuntime) -> Result<(), Fail> {
     let input = joined(rt.alloc(), &[HEAD, FIRST, "end\n"])?;
     let counts = "ok levels 2 hosts 4 store 0 events 2\n";
     expect(&rt, rt.alloc(), &["check"], &input, Status::Fine, counts)?;
+    let rows = "store U of U 1\nstore U gone\n";
+    let input = joined(rt.alloc(), &[ROSTER, rows, "begin\nend\n"])?;
+    let counts = "ok levels 2 hosts 4 store 2 events 0\n";
+    expect(&rt, rt.alloc(), &["check"], &input, Status::Fine, counts)?;
+    Ok(())
+}
+
+/// An input is refused at this line, for this reason and in this word.
+pub fn expect_refused<R: Threads + Abort>(
+    rt: &R,
+    alloc: Global,
+    asked: &str,
+    input: &[u8],
+    line: u32,
+    reason: Reason,
+    word: &str,
+) -> Result<(), AllocError> {
+    let number = line.to_string(alloc)?;
+    let told = joined(alloc, &["refused ", number.as_str(), " ", word, "\n"])?;
+    let status = Status::Refused(Refusal { line, reason });
+    expect_bytes(rt, alloc, &[asked], input, status, &told)
+}
+
+/// The two parts of an input, and the line, the reason and the word at which it is refused.
+type Refusing<'a> = (&'a str, &'a str, u32, Reason, &'a str);
+
+fn expect_refused_always<R: Threads + Abort>(
+    rt: &R,
+    alloc: Global,
+    refusing: Refusing,
+) -> Result<(), AllocError> {
+    let (head, rest, line, reason, word) = refusing;
+    let input = joined(alloc, &[head, rest])?;
+    for asked in ["replay", "check", "wire"] {
+        expect_refused(rt, alloc, asked, &input, line, reason, word)?;
+    }
     Ok(())
 }
 
 #[test]
-fn refuses_at_the_first_bad_line(rt: HostRuntime) -> Result<(), Fail> {
-    for (parts, line, reason, written) in [
-        (["", "", ""], 1, Reason::End, "refused 1 end\n"),
-        (["dss 1\n", "", ""], 2, Reason::End, "refused 2 end\n"),
-        (["dss 2\n", "", ""], 1, Reason::Form, "refused 1 form\n"),
-        ([HEAD, FIRST, ""], 11, Reason::End, "refused 11 end\n"),
-        ([HEAD, FIRST, "end"], 11, Reason::Form, "refused 11 form\n"),
+fn refuses_where_a_line_is_missing_or_out_of_place(rt: HostRuntime) -> Result<(), Fail> {
+    let rows: [Refusing; 7] = [
+        ("", "", 1, Reason::End, "end"),
+        ("dss 1\n", "", 2, Reason::End, "end"),
+        ("dss 2\n", "", 1, Reason::Form, "form"),
+        (HEAD, FIRST, 11, Reason::End, "end"),
         (
-            [HEAD, FIRST, "end\nend\n"],
+            HEAD,
+            "send 1 2 6869\ndeliver 1>2#0.0 to 2\nend",
+            11,
+            Reason::Form,
+            "form",
+        ),
+        (
+            HEAD,
+            "send 1 2 6869\ndeliver 1>2#0.0 to 2\nend\nend\n",
             12,
             Reason::Place,
-            "refused 12 place\n",
+            "place",
+        ),
+        ("dss 1\nhost 1 U\n", "", 2, Reason::Place, "place"),
+    ];
+    for row in rows {
+        expect_refused_always(&rt, rt.alloc(), row)?;
+    }
+    Ok(())
+}
+
+/// Two levels.
+const LEVELS: &str = "dss 1\nlevel U 0 -\nlevel S 2 a\n";
+
+/// A level under DES, in front of its keys.
+const KEYED: &str = "dss 1\nseal des\nlevel U 0 -\n";
+
+#[test]
+fn refuses_what_a_line_says(rt: HostRuntime) -> Result<(), Fail> {
+    let rows: [Refusing; 7] = [
+        (LEVELS, "level U 3 -\n", 4, Reason::Twice, "twice"),
+        (LEVELS, "level T 0 -\n", 4, Reason::Twice, "twice"),
+        (
+            KEYED,
+            "key U 0000000000000000 133457799bbcdff1\n",
+            4,
+            Reason::Key,
+            "key",
         ),
         (
-            [HEAD, "send 1 9 00\n", "end\n"],
-            9,
-            Reason::Name,
-            "refused 9 name\n",
+            KEYED,
+            "key U 133457799bbcdff1 123456789abcdef0\n",
+            4,
+            Reason::Key,
+            "key",
         ),
-        (
-            [HEAD, "send 01 2 00\n", "end\n"],
-            9,
-            Reason::Form,
-            "refused 9 form\n",
-        ),
-        (
-            [HEAD, "send 1 2 6A\n", "end\n"],
-            9,
-            Reason::Form,
-            "refused 9 form\n",
-        ),
-    ] {
-        let status = Status::Refused(Refusal { line, reason });
-        let input = joined(rt.alloc(), &parts)?;
-        for word in ["replay", "check"] {
-            expect(&rt, rt.alloc(), &[word], &input, status, written)?;
-        }
+        (HEAD, "send 1 9 00\nend\n", 9, Reason::Name, "name"),
+        (HEAD, "send 01 2 00\nend\n", 9, Reason::Form, "form"),
+        (HEAD, "send 1 2 6A\nend\n", 9, Reason::Form, "form"),
+    ];
+    for row in rows {
+        expect_refused_always(&rt, rt.alloc(), row)?;
     }
     Ok(())
 }
@@ -277,43 +366,18 @@ fn refuses_an_input_that_is_too_long(rt: HostRuntime) -> Result<(), Fail> {
 #[test]
 fn other_words_have_no_form(rt: HostRuntime) -> Result<(), Fail> {
     let input = joined(rt.alloc(), &[HEAD, FIRST, "end\n"])?;
-    let other: [&[&str]; 6] = [
+    let other: [&[&str]; 7] = [
         &[],
         &["replay", "replay"],
         &["Replay"],
         &["repla"],
         &["checks"],
+        &["wire", "wire"],
         &[""],
     ];
     for asked in other {
         expect(&rt, rt.alloc(), asked, &input, Status::Usage, "")?;
     }
-    Ok(())
-}
-
-#[test]
-fn a_fault_of_reading_leaves_nothing_written(rt: HostRuntime) -> Result<(), Fail> {
-    let alloc = rt.alloc();
-    let input = joined(alloc, &[HEAD, FIRST, "end\n"])?;
-    let mut source = MemSource::new(alloc, &input, 111, &[1])?;
-    let mut sink = SureSink::new(alloc);
-    let words = words(alloc, &["replay"])?;
-    let answer = run(&rt, alloc, &words, &mut source, &mut sink);
-    assert_eq!(rt; answer, Status::ReadFault);
-    assert!(rt; sink.contents().is_empty());
-    Ok(())
-}
-
-#[test]
-fn a_fault_of_writing_leaves_a_beginning(rt: HostRuntime) -> Result<(), Fail> {
-    let alloc = rt.alloc();
-    let input = joined(alloc, &[HEAD, FIRST, "end\n"])?;
-    let mut source = SureSource::new(alloc, &input)?;
-    let mut sink = MemSink::new(alloc, 10, &[2])?;
-    let words = words(alloc, &["replay"])?;
-    let answer = run(&rt, alloc, &words, &mut source, &mut sink);
-    assert_eq!(rt; answer, Status::WriteFault);
-    assert!(rt; sink.contents() == b"host 1 U\ns".as_slice());
     Ok(())
 }
 
@@ -329,6 +393,7 @@ fn each_status_has_its_number(rt: HostRuntime) {
         (refused, 2),
         (Status::ReadFault, 3),
         (Status::WriteFault, 4),
+        (Status::Opened(10), 5),
         (Status::OutOfMemory, 6),
     ] {
         assert_eq!(rt; status.code(), code);

@@ -3,15 +3,18 @@ ghost use Rattle.dss_io.specs.Faults.{Rose};
 ghost use Rattle.dss_io.specs.Reading.{TakesAtMost};
 ghost use Rattle.replay.specs.declared.status.Status.{Status};
 ghost use Rattle.replay.specs.declared.status.Status.TheVariants.{Refused};
-ghost use Rattle.replay.specs.Due.{command_of, refused_line, Due, Delivers, IsAnswer, ReadsToEnd};
-ghost use Rattle.replay.specs.inside.Owing.{IsOwed, too_long};
+ghost use Rattle.replay.specs.Due.{command_of, refused_line, too_long, Due, Delivers, IsAnswer, ReadsToEnd};
+ghost use Rattle.replay.specs.Kept.{KeepsReport};
+ghost use Rattle.replay.specs.inside.Owing.{IsOwed, GoesAlong};
 
 use crate::command::{Command, command_of};
 use crate::owed::{Owed, answer_to, refusal_owed};
 use crate::status::Status;
 use dss_io::{ReadStop, Sink, SinkStop, Source, read_all, write_all};
+use engine::Report;
+use ring_link::Gate;
 use script::{Reason, Refusal, TEXT_LIMIT};
-use std::alloc::{AllocError, Global};
+use std::alloc::Global;
 use std::thread::Threads;
 
 /// The refusal of an input that is too long.
@@ -20,77 +23,110 @@ const TOO_LONG: Refusal = Refusal {
     reason: Reason::Many,
 };
 
+/// How a call ended, and the report that is kept of it.
+#[derive(Drop)]
+struct Ended {
+    status: Status,
+    report: Option<Report>,
+}
+
+/// An end of which nothing is kept.
+fn without_report(status: Status) -> Ended
+    ensures status { result.status ≡ status }
+    ensures report { result.report ≡ None }
+{
+    Ended {
+        status,
+        report: None,
+    }
+}
+
 /// Writes what is due.
-fn deliver<K: Sink>(sink: &mut K, owed: Owed) -> Status
+fn deliver<K: Sink>(sink: &mut K, owed: Owed) -> Ended
     requires { IsAnswer owed.status }
-    ensures answer { Delivers (IsOwed owed.status owed.text.items) result
+    ensures answer { Delivers (IsOwed owed.status owed.text.items) result.status
         (K.written sink.old) (K.written sink.new) }
-    ensures read { result ≢ Status.ReadFault }
-    ensures fault { result ≡ Status.WriteFault → Rose (K.faults sink.old) (K.faults sink.new) }
+    ensures report { GoesAlong owed.status owed.report result.status result.report }
+    ensures read { result.status ≢ Status.ReadFault }
+    ensures fault { result.status ≡ Status.WriteFault
+        → Rose (K.faults sink.old) (K.faults sink.new) }
 {
     match write_all(sink, &owed.text) {
-        Ok(()) => owed.status,
-        Err(SinkStop::Failed) => Status::WriteFault,
-        Err(SinkStop::OutOfMemory) => Status::OutOfMemory,
+        Ok(()) => Ended {
+            status: owed.status,
+            report: owed.report,
+        },
+        Err(SinkStop::Failed) => without_report(Status::WriteFault),
+        Err(SinkStop::OutOfMemory) => without_report(Status::OutOfMemory),
     }
 }
 
 /// Answers an input that was read.
-fn answer<R: Threads, K: Sink>(
+fn answer<R: Threads, K: Sink, G: Gate + Sync>(
     rt: &R,
     alloc: Global,
     command: Command,
     bytes: Vec<u8>,
     sink: &mut K,
-) -> Status
-    ensures answer { Delivers (Due bytes.items (Some command)) result
+    gate: &G,
+) -> Ended
+    ensures answer { Delivers (Due bytes.items (Some command)) result.status
         (K.written sink.old) (K.written sink.new) }
-    ensures read { result ≢ Status.ReadFault }
-    ensures fault { result ≡ Status.WriteFault → Rose (K.faults sink.old) (K.faults sink.new) }
+    ensures kept { KeepsReport (Some command) result.status (Some bytes.items) result.report }
+    ensures read { result.status ≢ Status.ReadFault }
+    ensures used { result.status ≢ Status.Usage }
+    ensures fault { result.status ≡ Status.WriteFault
+        → Rose (K.faults sink.old) (K.faults sink.new) }
 {
-    match answer_to(rt, alloc, command, bytes) {
+    match answer_to(rt, alloc, command, bytes, gate) {
         Ok(owed) => deliver(sink, owed),
-        Err(_) => Status::OutOfMemory,
+        Err(_) => without_report(Status::OutOfMemory),
     }
 }
 
 /// Refuses an input that is too long.
-fn refuse_long<K: Sink>(alloc: Global, sink: &mut K) -> Status
-    ensures answer { Delivers (IsOwed (Refused too_long) (refused_line too_long)) result
+fn refuse_long<K: Sink>(alloc: Global, sink: &mut K) -> Ended
+    ensures answer { Delivers (IsOwed (Refused too_long) (refused_line too_long)) result.status
         (K.written sink.old) (K.written sink.new) }
-    ensures read { result ≢ Status.ReadFault }
-    ensures fault { result ≡ Status.WriteFault → Rose (K.faults sink.old) (K.faults sink.new) }
+    ensures none { result.report ≡ None }
+    ensures fine { result.status ≢ Status.Fine }
+    ensures read { result.status ≢ Status.ReadFault }
+    ensures fault { result.status ≡ Status.WriteFault
+        → Rose (K.faults sink.old) (K.faults sink.new) }
 {
     match refusal_owed(alloc, TOO_LONG) {
         Ok(owed) => deliver(sink, owed),
-        Err(_) => Status::OutOfMemory,
+        Err(_) => without_report(Status::OutOfMemory),
     }
 }
 
 /// Does a command over a source and a sink.
-fn carry_out<R: Threads, S: Source, K: Sink>(
+fn carry_out<R: Threads, S: Source, K: Sink, G: Gate + Sync>(
     rt: &R,
     alloc: Global,
     command: Command,
     source: &mut S,
     sink: &mut K,
-) -> Status
+    gate: &G,
+) -> Ended
     ensures delivers { (bytes : List ℕ) → S.left source.old ≡ Some bytes →
-        Delivers (Due bytes (Some command)) result (K.written sink.old) (K.written sink.new) }
+        Delivers (Due bytes (Some command)) result.status
+        (K.written sink.old) (K.written sink.new) }
+    ensures kept { KeepsReport (Some command) result.status (S.left source.old) result.report }
     ensures taken { TakesAtMost (S.left source.old) (S.left source.new) (TEXT_LIMIT + 1) }
-    ensures end { ReadsToEnd result (S.left source.new) }
-    ensures read_fault { result ≡ Status.ReadFault
+    ensures end { ReadsToEnd result.status (S.left source.new) }
+    ensures read_fault { result.status ≡ Status.ReadFault
         → Rose (S.faults source.old) (S.faults source.new) }
-    ensures unwritten { result ≡ Status.ReadFault → sink.new ≡ sink.old }
-    ensures write_fault { result ≡ Status.WriteFault
+    ensures unwritten { result.status ≡ Status.ReadFault → sink.new ≡ sink.old }
+    ensures write_fault { result.status ≡ Status.WriteFault
         → Rose (K.faults sink.old) (K.faults sink.new) }
-    ensures used { result ≢ Status.Usage }
+    ensures used { result.status ≢ Status.Usage }
 {
     match read_all(alloc, source, TEXT_LIMIT) {
-        Ok(bytes) => answer(rt, alloc, command, bytes, sink),
+        Ok(bytes) => answer(rt, alloc, command, bytes, sink, gate),
         Err(ReadStop::TooMany) => refuse_long(alloc, sink),
-        Err(ReadStop::Fault) => Status::ReadFault,
-        Err(ReadStop::OutOfMemory) => Status::OutOfMemory,
+        Err(ReadStop::Fault) => without_report(Status::ReadFault),
+        Err(ReadStop::OutOfMemory) => without_report(Status::OutOfMemory),
     }
 }
 
@@ -98,12 +134,14 @@ fn carry_out<R: Threads, S: Source, K: Sink>(
 /// 16,777,216 bytes, and writes what is due to the sink in one go.
 ///
 /// Want of memory is the one free answer.
-pub fn run<R: Threads, S: Source, K: Sink>(
+pub fn run<R: Threads, S: Source, K: Sink, G: Gate + Sync>(
     rt: &R,
     alloc: Global,
     words: &[String],
     source: &mut S,
     sink: &mut K,
+    gate: &G,
+    kept: &mut Option<Report>,
 ) -> Status
     // The words have none of the forms exactly at Usage, and then nothing is read or written.
     ensures usage { (result ≡ Status.Usage) ↔ (command_of (map string_bytes words.now) ≡ None) }
@@ -114,6 +152,10 @@ pub fn run<R: Threads, S: Source, K: Sink>(
     ensures delivers { (bytes : List ℕ) → S.left source.old ≡ Some bytes →
         Delivers (Due bytes (command_of (map string_bytes words.now))) result
         (K.written sink.old) (K.written sink.new) }
+
+    // What is kept: the report of the script that was run, where all that it shows was written.
+    ensures kept { KeepsReport (command_of (map string_bytes words.now)) result
+        (S.left source.old) kept.new }
 
     // A fault is answered only where its count rose. After a fault of reading nothing was written.
     ensures read_fault { result ≡ Status.ReadFault
@@ -131,8 +173,11 @@ pub fn run<R: Threads, S: Source, K: Sink>(
     ensures taken { TakesAtMost (S.left source.old) (S.left source.new) (TEXT_LIMIT + 1) }
     ensures end { ReadsToEnd result (S.left source.new) }
 {
-    match command_of(words) {
-        Some(command) => carry_out(rt, alloc, command, source, sink),
-        None => Status::Usage,
-    }
+    *kept = None;
+    let Some(command) = command_of(words) else {
+        return Status::Usage;
+    };
+    let ended = carry_out(rt, alloc, command, source, sink, gate);
+    *kept = ended.report;
+    ended.status
 }

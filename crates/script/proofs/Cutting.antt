@@ -1,9 +1,11 @@
 -- Texts cut at a mark.
-use Rattle.std.proofs.Common.{None, ◌≡◌, ℕ, ◌+◌, ◌-◌, ◌<◌, ◌≤◌, false, eqb, List, [], ◌∷◌, ◌++◌, length, take, drop, get_or, refl, sym, ap, ◌∙◌, arith}
+use Rattle.std.proofs.Common.{Option, Some, None, ◌≡◌, ℕ, ◌+◌, ◌-◌, ◌<◌, ◌≤◌, false, eqb, List, [], ◌∷◌, ◌++◌, length, take, drop, get_or, refl, sym, ap, ◌∙◌, arith}
 use Rattle.std.specs.List.{All, slice_split}
 use Rattle.std.proofs.lemmas.Bool.{eq-eqb}
-use Rattle.script.specs.Lines.{Line}
-use Rattle.script.specs.inside.Readers.{as_one, as_two, as_three, nothing, words}
+use Rattle.std.specs.Prelude.{codes}
+use Rattle.script.specs.Lines.{Line, Store, Event, Tamper}
+use Rattle.script.specs.Naming.{◌>>=◌}
+use Rattle.script.specs.inside.Readers.{as_one, as_two, as_three, nothing, words, name_read, action_read, store_form, piece_read, exactly, party_read, edits_read, tamper_form}
 use Rattle.std.proofs.lemmas.List.{take-append-drop, drop_more, take_rest, take_all}
 use Rattle.std.proofs.lemmas.List.Splits.{slice_split_at, slice_split_none, length-slice_split}
 
@@ -50,5 +52,31 @@ pub not_three : (mark : ℕ) (a b d text : List ℕ) (texts rest last : List (Li
 not_three mark a b d text texts rest last e h g = let s = some_part mark text in
     rw (e, h, g, s.2) refl
 
-pub something_behind : (made : Line) (text : List ℕ) → nothing made (words text) ≡ None
+pub something_behind : {R : Type 0} (made : R) (text : List ℕ) → nothing made (words text) ≡ None
 something_behind made text = let s = some_part 32 text in rw s.2 refl
+
+-- a reader alone is no row of the plan
+pub no_action : (reader : List ℕ) → store_form (reader ∷ []) ≡ None
+unfolding store_form action_read
+no_action reader = by_name (name_read reader)
+  where
+    by_name : (o : Option (List ℕ)) → (o >>= λ name. None >>= λ action. Some (Store name action)) ≡ None
+    by_name None = refl
+    by_name (Some name) = refl
+
+-- a tamper line by its words: some stand behind the third
+abbrev pub tampered : List ℕ → List ℕ → List ℕ → List (List ℕ) → Option Line
+tampered piece to at edits = do
+  piece ← piece_read piece
+  to ← exactly (codes "to") (tt {0}) to
+  at ← party_read at
+  edits ← edits_read 8 0 edits
+  Some (Event (Tamper piece.0 piece.1.0 piece.1.1 at edits))
+
+pub tamper_words : (text piece rest to more at edits : List ℕ)
+    → words text ≡ piece ∷ words rest → words rest ≡ to ∷ words more
+    → words more ≡ at ∷ words edits
+    → tamper_form (words text) ≡ tampered piece to at (words edits)
+unfolding tamper_form
+tamper_words text piece rest to more at edits a b d =
+    let s = some_part 32 edits in rw (a, b, d, s.2) refl

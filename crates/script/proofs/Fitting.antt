@@ -30,11 +30,11 @@ use Rattle.events.specs.ScriptView.{ScriptView}
 use Rattle.events.specs.Scripts.{is_known, has_level, is_call_named, is_action_named, ActionFits, IsEvent, IsPlanRow, IsScript}
 use Rattle.script.specs.Lines.{Line}
 use Rattle.script.specs.Lines as line
-use Rattle.script.specs.Ranges.{IsAddress, IsLevelName, HasPartyRange, HasStreamRanges, HasCallRanges, HasRanges}
+use Rattle.script.specs.Ranges.{IsAddress, IsLevelName, HasPartyRange, HasStreamRanges, HasCallRanges, HasActionRanges, HasRanges}
+use Rattle.script.specs.Laws.{IsSaid, IsSpelled}
 use Rattle.script.specs.Text.{name_or_none, party_said, stream_said, call_said, action_said, lines_of_sealing, line_of_level, line_of_key, line_of_guard, lines_of_keys, line_of_host, line_of_row, line_of_event, script_lines}
-use Rattle.script.proofs.Tools.{both}
-use Rattle.script.proofs.Inks.{IsHeldAction, IsHeld}
-use Rattle.script.proofs.Hosts.{all_left, all_right}
+use Rattle.script.proofs.Tools.{both, all_left, all_right, all_append}
+use Rattle.script.proofs.Inks.{IsHeldAction, IsHeld, ranges_held}
 use Rattle.script.proofs.Naming.{some_of}
 use Rattle.script.proofs.Found.{found_row}
 
@@ -179,77 +179,119 @@ row_held roster row good is =
       action_held roster row.action good named.1 is.fits,
     )
 
+action_range : (roster : RosterView) (action : StoreAction) → IsRoster roster
+    → is_action_named roster action ≡ true → ActionFits action → IsSaid action
+    → HasActionRanges (action_said roster action)
+action_range roster Honest good named fits said = tt
+action_range roster (Of level version) good named fits said =
+    (level_fits roster level good named, said)
+action_range roster (Flip offset xor) good named fits said =
+    ((omega arith, omega (arith, fits.0)), (omega (arith, said), omega (arith, fits.1)))
+action_range roster Gone good named fits said = tt
+
 -- ---- all lines
 
-all_mapped : {X : Type 0} (P : X → Type 0) (f : X → Line) → ((x : X) → P x → IsHeld (f x))
-    → (xs : List X) → AllByRecursion P xs
-    → AllByRecursion IsHeld (map f xs)
-all_mapped P f h [] all = tt
-all_mapped P f h (x ∷ xs) all = (h x all.0, all_mapped P f h xs all.1)
+all_mapped : {X : Type 0} (P : X → Type 0) (Q : Line → Type 0) (f : X → Line)
+    → ((x : X) → P x → Q (f x)) → (xs : List X) → AllByRecursion P xs
+    → AllByRecursion Q (map f xs)
+all_mapped P Q f h [] all = tt
+all_mapped P Q f h (x ∷ xs) all = (h x all.0, all_mapped P Q f h xs all.1)
 
-all_append : {X : Type 0} (P : X → Type 0) (xs ys : List X) → AllByRecursion P xs
-    → AllByRecursion P ys → AllByRecursion P (xs ++ ys)
-all_append P [] ys a b = b
-all_append P (x ∷ xs) ys a b = (a.0, all_append P xs ys a.1 b)
+weaker : (P : Line → Type 0) → ((made : Line) → HasRanges made → P made) → (lines : List Line)
+    → AllByRecursion HasRanges lines → AllByRecursion P lines
+weaker P h [] all = tt
+weaker P h (made ∷ lines) all = (h made all.0, weaker P h lines all.1)
 
-abbrev AreHeld : List Line → Type 0
-AreHeld lines = AllByRecursion IsHeld lines
+abbrev HaveRanges : List Line → Type 0
+HaveRanges lines = AllByRecursion HasRanges lines
 
-held : (xs ys : List Line) → AreHeld xs → AreHeld ys → AreHeld (xs ++ ys)
-held xs ys a b = all_append IsHeld xs ys a b
+sealing_range : (sealing : Sealing) → HaveRanges (lines_of_sealing sealing)
+sealing_range Clear = tt
+sealing_range Des = (tt, tt)
 
-sealing_held : (sealing : Sealing) → AreHeld (lines_of_sealing sealing)
-sealing_held Clear = tt
-sealing_held Des = (tt, tt)
-
-pairs_held : (levels : List LevelRow) (pairs : List KeyPair) → AllByRecursion IsLevelRow levels
+pairs_range : (levels : List LevelRow) (pairs : List KeyPair) → AllByRecursion IsLevelRow levels
     → AllByRecursion IsKeyPair pairs
-    → AreHeld (map line_of_key (zip levels pairs))
-pairs_held [] [] rows are = tt
-pairs_held [] (pair ∷ pairs) rows are = tt
-pairs_held (row ∷ levels) [] rows are = tt
-pairs_held (row ∷ levels) (pair ∷ pairs) rows are =
-    ((rows.0.name, are.0), pairs_held levels pairs rows.1 are.1)
+    → HaveRanges (map line_of_key (zip levels pairs))
+pairs_range [] [] rows are = tt
+pairs_range [] (pair ∷ pairs) rows are = tt
+pairs_range (row ∷ levels) [] rows are = tt
+pairs_range (row ∷ levels) (pair ∷ pairs) rows are =
+    ((rows.0.name, are.0), pairs_range levels pairs rows.1 are.1)
 
-keys_held : (roster : RosterView) → IsRoster roster → AreHeld (lines_of_keys roster)
-keys_held roster good =
+keys_range : (roster : RosterView) → IsRoster roster → HaveRanges (lines_of_keys roster)
+keys_range roster good =
     let guards = all_left IsKeyPair (listed roster.guard) roster.keys good.pairs in
     let keys = all_right IsKeyPair (listed roster.guard) roster.keys good.pairs in
-    held (map line_of_key (zip roster.levels roster.keys)) (map line_of_guard (listed roster.guard))
-    (pairs_held roster.levels roster.keys good.levels keys)
-    (all_mapped IsKeyPair line_of_guard (λ pair is. is) (listed roster.guard) guards)
+    all_append HasRanges (map line_of_key (zip roster.levels roster.keys))
+    (map line_of_guard (listed roster.guard))
+    (pairs_range roster.levels roster.keys good.levels keys)
+    (all_mapped IsKeyPair HasRanges line_of_guard (λ pair is. is) (listed roster.guard) guards)
 
-pub script_held : (script : ScriptView) → IsScript script → AreHeld (script_lines script)
-script_held script good =
-    let roster = script.roster in
-    let version = line.Version ∷ [] in
-    let sealing = lines_of_sealing roster.sealing in
-    let levels = map line_of_level roster.levels in
-    let keys = lines_of_keys roster in
-    let hosts = map (line_of_host roster) roster.hosts in
-    let rows = map (line_of_row roster) script.rows in
-    let begin = line.Begin ∷ [] in
-    let events = map (line_of_event roster) script.events in
-    let in_levels : AreHeld levels = all_mapped IsLevelRow line_of_level level_range roster.levels
-    good.roster.levels in
-    let in_hosts : AreHeld hosts =
-    all_mapped (IsHostRow (length roster.levels)) (line_of_host roster)
-    (λ row is. host_range roster row good.roster is) roster.hosts good.roster.hosts in
-    let in_rows : AreHeld rows =
-    all_mapped (IsPlanRow roster) (line_of_row roster)
-    (λ row is. row_held roster row good.roster is) script.rows good.rows in
-    let in_events : AreHeld events =
-    all_mapped (IsEvent roster) (line_of_event roster)
-    (λ event is. event_range roster event good.roster is) script.events good.events in
-    let to_levels = held (version ++ sealing) levels
-    (held version sealing (tt, tt) (sealing_held roster.sealing)) in_levels in
-    let to_hosts = held (version ++ sealing ++ levels ++ keys) hosts
-    (held (version ++ sealing ++ levels) keys to_levels (keys_held roster good.roster))
-    in_hosts in
-    let to_rows = held (version ++ sealing ++ levels ++ keys ++ hosts) rows to_hosts in_rows in
-    let to_begin = held (version ++ sealing ++ levels ++ keys ++ hosts ++ rows) begin to_rows
-    (tt, tt) in
-    let to_events = held (version ++ sealing ++ levels ++ keys ++ hosts ++ rows ++ begin) events
-    to_begin in_events in
-    held (version ++ sealing ++ levels ++ keys ++ hosts ++ rows ++ begin ++ events) (line.End ∷ [])
-    to_events (tt, tt)
+module _ (script : ScriptView) (good : IsScript script) where
+  abbrev front : List Line
+  front = (line.Version ∷ []) ++ lines_of_sealing script.roster.sealing
+      ++ map line_of_level script.roster.levels
+
+  abbrev above : List Line
+  above = front ++ lines_of_keys script.roster
+      ++ map (line_of_host script.roster) script.roster.hosts
+
+  abbrev rows : List Line
+  rows = map (line_of_row script.roster) script.rows
+
+  abbrev events : List Line
+  events = map (line_of_event script.roster) script.events
+
+  above_range : HaveRanges above
+  above_range =
+      let roster = script.roster in
+      let version = line.Version ∷ [] in
+      let sealing = lines_of_sealing roster.sealing in
+      let levels = map line_of_level roster.levels in
+      let hosts = map (line_of_host roster) roster.hosts in
+      all_append HasRanges (front ++ lines_of_keys roster) hosts
+      (all_append HasRanges front (lines_of_keys roster)
+      (all_append HasRanges (version ++ sealing) levels
+      (all_append HasRanges version sealing (tt, tt) (sealing_range roster.sealing))
+      (all_mapped IsLevelRow HasRanges line_of_level level_range roster.levels good.roster.levels))
+      (keys_range roster good.roster))
+      (all_mapped (IsHostRow (length roster.levels)) HasRanges (line_of_host roster)
+      (λ row is. host_range roster row good.roster is) roster.hosts good.roster.hosts)
+
+  events_range : HaveRanges events
+  events_range = all_mapped (IsEvent script.roster) HasRanges (line_of_event script.roster)
+      (λ event is. event_range script.roster event good.roster is) script.events good.events
+
+  -- what holds of lines in their ranges, and of the lines of the plan, holds of all lines
+  script_all : (P : Line → Type 0) → ((made : Line) → HasRanges made → P made)
+      → AllByRecursion P rows → AllByRecursion P (script_lines script)
+  script_all P h rows_all =
+      let begin = line.Begin ∷ [] in
+      all_append P (above ++ rows ++ begin ++ events) (line.End ∷ [])
+      (all_append P (above ++ rows ++ begin) events
+      (all_append P (above ++ rows) begin
+      (all_append P above rows (weaker P h above above_range) rows_all) (h line.Begin tt, tt))
+      (weaker P h events events_range)) (h line.End tt, tt)
+
+  pub script_held : AllByRecursion IsHeld (script_lines script)
+  script_held = script_all IsHeld ranges_held
+      (all_mapped (IsPlanRow script.roster) IsHeld (line_of_row script.roster)
+      (λ row is. row_held script.roster row good.roster is) script.rows good.rows)
+
+  rows_range : (rows : List PlanRow) → AllByRecursion (IsPlanRow script.roster) rows
+      → AllByRecursion (λ (row : PlanRow). IsSaid row.action) rows
+      → HaveRanges (map (line_of_row script.roster) rows)
+  rows_range [] are said = tt
+  rows_range (row ∷ rows) are said =
+      let named = both (has_level script.roster row.reader.0)
+      (is_action_named script.roster row.action) are.0.named in (
+        (
+          level_fits script.roster row.reader.0 good.roster named.0,
+          action_range script.roster row.action good.roster named.1 are.0.fits said.0,
+        ),
+        rows_range rows are.1 said.1,
+      )
+
+  pub script_ranges : IsSpelled script → HaveRanges (script_lines script)
+  script_ranges spelled =
+      script_all HasRanges (λ made is. is) (rows_range script.rows good.rows spelled)

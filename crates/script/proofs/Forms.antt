@@ -1,203 +1,207 @@
 -- Lines both ways: the forms, one by one.
-use Rattle.std.proofs.Common.{◌≡◌, ℕ, ◌<◌, eqb, List, [], ◌∷◌, length, Option, Some, refl, sym, ap, subst, ◌∙◌, arith, inl, inr, lit<, lit≤}
+use Rattle.std.proofs.Common.{◌≡◌, ℕ, ◌<◌, eqb, List, [], ◌∷◌, length, map, Some, refl, sym, ap, subst, ◌∙◌, arith, lit<, lit≤}
 use Rattle.std.specs.Prelude.{codes}
 use Rattle.std.specs.List.{AllByRecursion, join_with_byte}
 use Rattle.std.specs.Fmt.{decimal}
-use Rattle.std.specs.Str.{bytes_eq}
-use Rattle.std.proofs.lemmas.Bool.{cases_Bool}
 use Rattle.std.proofs.lemmas.List.Splits.{slice_split_at, slice_split_none, join_with_byte-slice_split}
-use Rattle.std.proofs.lemmas.Slice.Eq.{bytes_eq-Decides}
-use Rattle.script.specs.Lines.{CallWords, EventWords, Line}
+use Rattle.script.specs.Lines.{CallWords, EventWords, StoreWords, Line}
 use Rattle.script.specs.Lines as line
-use Rattle.script.specs.Spelling.{call_words, event_words, line_words, line_text}
+use Rattle.script.specs.Spelling.{edit_text, call_words, event_words, line_words, line_text}
+use Rattle.script.specs.declared.line.PartyWord.{PartyWord}
 use Rattle.script.specs.declared.line.StreamWord.{StreamWord}
-use Rattle.script.specs.Ranges.{InRange, HasStreamRanges}
-use Rattle.script.specs.Today.{NamesHosts}
-use Rattle.script.specs.Reasons.{IsReadable, Spells}
-use Rattle.script.specs.Facts.{◌>>=◌}
-use Rattle.script.specs.inside.Readers.{number_read, exactly, as_one, as_two, as_three, nothing, one, two, three, version_form, level_form, host_form, send_form, deliver_form, carry_form, FormReader, forms, read_by, form_read, line_read, words}
+use Rattle.script.specs.Ranges.{InRange, HasRanges}
+use Rattle.script.specs.Reasons.{Spells}
+use Rattle.script.specs.Naming.{◌>>=◌}
+use Rattle.script.specs.inside.Readers.{number_read, exactly, nothing, asked, version_form, seal_form, level_form, key_form, guard_form, host_form, store_form, send_form, deliver_form, carry_form, forge_form, tamper_form, put_form, get_form, list_form, remove_form, append_form, block_form, action_read, call_read, event_forms, event_read, line_forms, name_read, key_pair, piece_read, party_read, edits_read, FormReader, form_read, line_read, words}
 use Rattle.script.proofs.Tools.{bind_some, some_same, IsInk, ink_lacks}
 use Rattle.script.proofs.Inks.{ranges_held, words_ink}
-use Rattle.script.proofs.Spellings.{IsWord, StreamFits, numbers, names, categories, messages, fixed, parties, message_words, piece_words}
+use Rattle.script.proofs.Spellings.{IsWord, numbers, names, categories, messages, fixed, parties, message_words, piece_words}
+use Rattle.script.proofs.EditWords.{sized_words, contents, edits_take, edits_again, rises_are, are_rise}
+use Rattle.script.proofs.Combining.{IsSpelledBy, IsForm, ReadsOn, nothing_takes, one_takes, two_takes, three_takes, read_by_takes, same_made}
+use Rattle.script.proofs.CallForms.{addresses, files, blocks, actions_take, action_again, calls_take}
 
--- a line is spelled by a first word and some words behind it
-pub record IsSpelledBy (first : List ℕ) (behind : List (List ℕ)) (made : Line) : Type 0 where
-  pub spelled : line_words made ≡ first ∷ behind
-  pub fits : IsReadable made
-
-nothing_takes : (first : List ℕ) (x : Line) → IsSpelledBy first [] x
-    → (ws : List (List ℕ)) (made : Line) → nothing x ws ≡ Some made → IsSpelledBy first ws made
-nothing_takes first x h [] made e = let r : x ≡ made = some_same x made e in
-    subst (IsSpelledBy first []) r h
-nothing_takes first x h (a ∷ ws) made e = absurd cc
-
-as_one_is : (ws : List (List ℕ)) (word : List ℕ) → as_one ws ≡ Some word → ws ≡ word ∷ []
-as_one_is [] word e = absurd cc
-as_one_is (a ∷ []) word e = cc
-as_one_is (a ∷ b ∷ ws) word e = absurd cc
-
-as_two_is : (ws : List (List ℕ)) (pair : List ℕ × List ℕ) → as_two ws ≡ Some pair
-    → ws ≡ pair.0 ∷ pair.1 ∷ []
-as_two_is [] pair e = absurd cc
-as_two_is (a ∷ []) pair e = absurd cc
-as_two_is (a ∷ b ∷ []) pair e = ap (λ (p : List ℕ × List ℕ). p.0 ∷ p.1 ∷ [])
-    (some_same (a, b) pair e)
-as_two_is (a ∷ b ∷ c ∷ ws) pair e = absurd cc
-
-as_three_is : (ws : List (List ℕ)) (triple : List ℕ × List ℕ × List ℕ) → as_three ws ≡ Some triple
-    → ws ≡ triple.0 ∷ triple.1 ∷ triple.2 ∷ []
-as_three_is [] triple e = absurd cc
-as_three_is (a ∷ []) triple e = absurd cc
-as_three_is (a ∷ b ∷ []) triple e = absurd cc
-as_three_is (a ∷ b ∷ c ∷ []) triple e =
-    ap (λ (t : List ℕ × List ℕ × List ℕ). t.0 ∷ t.1 ∷ t.2 ∷ []) (some_same (a, b, c) triple e)
-as_three_is (a ∷ b ∷ c ∷ d ∷ ws) triple e = absurd cc
-
-module _ {A : Type 0} {s : A → List ℕ} {P : A → Type 0} {f : List ℕ → Option A} (F : IsWord s P f)
-    (first : List ℕ) (make : A → Line) where
-  one_takes : ((x : A) → P x → IsSpelledBy first (s x ∷ []) (make x))
-      → (ws : List (List ℕ)) (made : Line) → one f make ws ≡ Some made → IsSpelledBy first ws made
-  one_takes h ws made e =
-      let w = bind_some (as_one ws) (λ word. f word >>= λ x. Some (make x)) made e in
-      let x = bind_some (f w.0) (λ x. Some (make x)) made w.2 in
-      let tx = F.takes w.0 x.0 x.1 in
-      let r : make x.0 ≡ made = some_same (make x.0) made x.2 in
-      let spelled : s x.0 ∷ [] ≡ ws = ap (λ (a : List ℕ). a ∷ []) (sym tx.0)
-      ∙ sym (as_one_is ws w.0 w.1) in
-      subst (λ (t : List (List ℕ)). IsSpelledBy first t made) spelled
-      (subst (IsSpelledBy first (s x.0 ∷ [])) r (h x.0 tx.1))
-
-module _ {A B : Type 0} {s : A → List ℕ} {P : A → Type 0} {f : List ℕ → Option A} {s' : B → List ℕ}
-    {P' : B → Type 0} {g : List ℕ → Option B} (F : IsWord s P f) (G : IsWord s' P' g)
-    (first : List ℕ) (make : A → B → Line) where
-  two_takes : ((x : A) (y : B) → P x → P' y → IsSpelledBy first (s x ∷ s' y ∷ []) (make x y))
-      → (ws : List (List ℕ)) (made : Line) → two f g make ws ≡ Some made → IsSpelledBy first ws made
-  two_takes h ws made e =
-      let w = bind_some (as_two ws) (λ pair. f pair.0 >>= λ x. g pair.1 >>= λ y. Some (make x y))
-      made e in
-      let x = bind_some (f w.0.0) (λ x. g w.0.1 >>= λ y. Some (make x y)) made w.2 in
-      let y = bind_some (g w.0.1) (λ y. Some (make x.0 y)) made x.2 in
-      let tx = F.takes w.0.0 x.0 x.1 in
-      let ty = G.takes w.0.1 y.0 y.1 in
-      let r : make x.0 y.0 ≡ made = some_same (make x.0 y.0) made y.2 in
-      let spelled : s x.0 ∷ s' y.0 ∷ [] ≡ ws = ap (λ (a : List ℕ). a ∷ s' y.0 ∷ []) (sym tx.0)
-      ∙ ap (λ (b : List ℕ). w.0.0 ∷ b ∷ []) (sym ty.0) ∙ sym (as_two_is ws w.0 w.1) in
-      subst (λ (t : List (List ℕ)). IsSpelledBy first t made) spelled
-      (subst (IsSpelledBy first (s x.0 ∷ s' y.0 ∷ [])) r (h x.0 y.0 tx.1 ty.1))
-
-module _ {A B C : Type 0} {s : A → List ℕ} {P : A → Type 0} {f : List ℕ → Option A}
-    {s' : B → List ℕ} {P' : B → Type 0} {g : List ℕ → Option B} {s'' : C → List ℕ}
-    {P'' : C → Type 0} {k : List ℕ → Option C}
-    (F : IsWord s P f) (G : IsWord s' P' g) (K : IsWord s'' P'' k) (first : List ℕ)
-    (make : A → B → C → Line) where
-  three_takes : ((x : A) (y : B) (z : C) → P x → P' y → P'' z
-      → IsSpelledBy first (s x ∷ s' y ∷ s'' z ∷ []) (make x y z))
-      → (ws : List (List ℕ)) (made : Line) → three f g k make ws ≡ Some made
-      → IsSpelledBy first ws made
-  three_takes h ws made e =
-      let w = bind_some (as_three ws) (λ triple. f triple.0 >>= λ x. g triple.1 >>= λ y. k triple.2
-      >>= λ z. Some (make x y z)) made e in
-      let x = bind_some (f w.0.0) (λ x. g w.0.1 >>= λ y. k w.0.2 >>= λ z. Some (make x y z)) made
-      w.2 in
-      let y = bind_some (g w.0.1) (λ y. k w.0.2 >>= λ z. Some (make x.0 y z)) made x.2 in
-      let z = bind_some (k w.0.2) (λ z. Some (make x.0 y.0 z)) made y.2 in
-      let tx = F.takes w.0.0 x.0 x.1 in
-      let ty = G.takes w.0.1 y.0 y.1 in
-      let tz = K.takes w.0.2 z.0 z.1 in
-      let r : make x.0 y.0 z.0 ≡ made = some_same (make x.0 y.0 z.0) made z.2 in
-      let spelled : s x.0 ∷ s' y.0 ∷ s'' z.0 ∷ [] ≡ ws =
-      ap (λ (a : List ℕ). a ∷ s' y.0 ∷ s'' z.0 ∷ []) (sym tx.0)
-      ∙ ap (λ (b : List ℕ). w.0.0 ∷ b ∷ s'' z.0 ∷ []) (sym ty.0)
-      ∙ ap (λ (d : List ℕ). w.0.0 ∷ w.0.1 ∷ d ∷ []) (sym tz.0)
-      ∙ sym (as_three_is ws w.0 w.1) in
-      subst (λ (t : List (List ℕ)). IsSpelledBy first t made) spelled
-      (subst (IsSpelledBy first (s x.0 ∷ s' y.0 ∷ s'' z.0 ∷ [])) r
-      (h x.0 y.0 z.0 tx.1 ty.1 tz.1))
-
--- a form reads lines that begin with its own first word
-abbrev IsForm : List ℕ × FormReader → Type 0
-IsForm form = (ws : List (List ℕ)) (made : Line) → form.1 ws ≡ Some made
-    → IsSpelledBy form.0 ws made
-
-read_by_takes : (fs : List (List ℕ × FormReader)) → AllByRecursion IsForm fs
-    → (first : List ℕ) (args : List (List ℕ)) (made : Line) → read_by fs first args ≡ Some made
-    → IsSpelledBy first args made
-read_by_takes [] h first args made e = absurd cc
-read_by_takes (form ∷ more) h first args made e =
-    elim (cases_Bool (bytes_eq first form.0)) [
-      | inl is ↦
-          let same : first ≡ form.0 = (bytes_eq-Decides first form.0).0 is in
-          let e' : form.1 args ≡ Some made = rw is at e in
-          rw same (h.0 args made e')
-      | inr not ↦ read_by_takes more h.1 first args made (rw not at e)
-    ]
+abbrev IsLineForm : List ℕ × FormReader Line → Type 0
+IsLineForm = IsForm line_words HasRanges
 
 abbrev to_word : IsWord (λ (y : Unit {0}). codes "to") (λ y. tt ≡ y) (exactly (codes "to") (tt {0}))
 to_word = fixed (codes "to") (tt {0}) refl
 
-abbrev addresses : IsWord decimal (InRange 1 250) (number_read 1 250)
-addresses = numbers 1 250 (lit< tt)
+-- ---- what happens
+
+sends_take : IsLineForm (codes "send", send_form)
+unfolding send_form
+sends_take = three_takes line_words HasRanges (codes "send") addresses parties messages
+    (λ from to message. line.Event (line.Send from to message))
+    (λ x y z p q r. record { spelled = refl; fits = (p, q, r) })
+
+delivers_take : IsLineForm (codes "deliver", deliver_form)
+unfolding deliver_form
+delivers_take = three_takes line_words HasRanges (codes "deliver") piece_words to_word parties
+    (λ piece to at. line.Event (line.Deliver piece.0 piece.1.0 piece.1.1 at))
+    (λ x y z p q r. record { spelled = refl; fits = (p.0, p.1.0, p.1.1, r) })
+
+carries_take : IsLineForm (codes "carry", carry_form)
+unfolding carry_form
+carries_take = three_takes line_words HasRanges (codes "carry") message_words to_word parties
+    (λ message to at. line.Event (line.Carry message.0 message.1 at))
+    (λ x y z p q r. record { spelled = refl; fits = (p.0, p.1, r) })
+
+forges_take : IsLineForm (codes "forge", forge_form)
+unfolding forge_form
+forges_take = two_takes line_words HasRanges (codes "forge") parties (sized_words 128)
+    (λ at bytes. line.Event (line.Forge at bytes))
+    (λ x y p q. record { spelled = refl; fits = (p, q.0, q.1) })
+
+abbrev changed_frame : StreamWord × (ℕ × ℕ) → PartyWord → List (ℕ × ℕ) → Line
+changed_frame piece at edits = line.Event (line.Tamper piece.0 piece.1.0 piece.1.1 at edits)
+
+some_edits : (first : List ℕ) (ws : List (List ℕ)) (edits : List (ℕ × ℕ))
+    → first ∷ ws ≡ map edit_text edits → 0 < length edits
+some_edits first ws [] e = absurd cc
+some_edits first ws (edit ∷ edits) e = omega arith
+
+tampers_take : IsLineForm (codes "tamper", tamper_form)
+unfolding tamper_form
+tampers_take [] made e = absurd cc
+tampers_take (a ∷ []) made e = absurd cc
+tampers_take (a ∷ b ∷ []) made e = absurd cc
+tampers_take (a ∷ b ∷ c ∷ []) made e = absurd cc
+tampers_take (a ∷ b ∷ c ∷ d ∷ ws) made e =
+    let x = bind_some (piece_read a) (λ piece. exactly (codes "to") (tt {0}) b >>= λ to.
+    party_read c >>= λ at. edits_read 8 0 (d ∷ ws) >>= λ edits. Some (changed_frame piece at edits))
+    made e in
+    let y = bind_some (exactly (codes "to") (tt {0}) b) (λ to. party_read c >>= λ at.
+    edits_read 8 0 (d ∷ ws) >>= λ edits. Some (changed_frame x.0 at edits)) made x.2 in
+    let z = bind_some (party_read c) (λ at. edits_read 8 0 (d ∷ ws) >>= λ edits.
+    Some (changed_frame x.0 at edits)) made y.2 in
+    let u = bind_some (edits_read 8 0 (d ∷ ws)) (λ edits. Some (changed_frame x.0 z.0 edits)) made
+    z.2 in
+    let tx = piece_words.takes a x.0 x.1 in
+    let ty = to_word.takes b y.0 y.1 in
+    let tz = parties.takes c z.0 z.1 in
+    let tu = edits_take 8 0 (d ∷ ws) u.0 u.1 in
+    let are = rises_are u.0 (some_edits d ws u.0 tu.spelled) tu.few tu.rise in
+    let good : IsSpelledBy line_words HasRanges (codes "tamper") (a ∷ b ∷ c ∷ d ∷ ws)
+    (changed_frame x.0 z.0 u.0) =
+    record {
+      spelled = cc (tx.0, ty.0, tz.0, tu.spelled);
+      fits = (tx.1.0, tx.1.1.0, tx.1.1.1, tz.1, are);
+    } in
+    same_made line_words HasRanges (codes "tamper") (a ∷ b ∷ c ∷ d ∷ ws)
+    (changed_frame x.0 z.0 u.0) made (some_same (changed_frame x.0 z.0 u.0) made u.2) good
+
+happenings : AllByRecursion IsLineForm event_forms
+happenings =
+    (sends_take, (delivers_take, (carries_take, (forges_take, (tampers_take, tt)))))
+
+events_take : ReadsOn line_words HasRanges event_read
+unfolding event_read
+events_take = read_by_takes line_words HasRanges event_forms call_read happenings calls_take
+
+-- ---- all lines
 
 abbrev ranks : IsWord decimal (InRange 0 7) (number_read 0 7)
 ranks = numbers 0 7 (lit< tt)
 
-versions_take : IsForm (codes "dss", version_form)
+versions_take : IsLineForm (codes "dss", version_form)
 unfolding version_form
-versions_take = one_takes (fixed (codes "1") line.Version refl) (codes "dss") (λ made. made)
-    (λ x p. subst (IsSpelledBy (codes "dss") (codes "1" ∷ [])) p
-    (record { spelled = refl; fits = (tt, tt) }))
+versions_take = one_takes line_words HasRanges (codes "dss") (fixed (codes "1") line.Version refl)
+    (λ made. made)
+    (λ x p. subst (IsSpelledBy line_words HasRanges (codes "dss") (codes "1" ∷ [])) p
+    (record { spelled = refl; fits = tt }))
 
-levels_take : IsForm (codes "level", level_form)
+seals_take : IsLineForm (codes "seal", seal_form)
+unfolding seal_form
+seals_take = one_takes line_words HasRanges (codes "seal") (fixed (codes "des") line.Seal refl)
+    (λ made. made)
+    (λ x p. subst (IsSpelledBy line_words HasRanges (codes "seal") (codes "des" ∷ [])) p
+    (record { spelled = refl; fits = tt }))
+
+levels_take : IsLineForm (codes "level", level_form)
 unfolding level_form
-levels_take = three_takes names ranks categories (codes "level")
+levels_take = three_takes line_words HasRanges (codes "level") names ranks categories
     (λ name rank cats. line.Level name (record { rank = rank; cats = cats }))
-    (λ x y z p q r. record { spelled = refl; fits = ((p, q, r), tt) })
+    (λ x y z p q r. record { spelled = refl; fits = (p, q, r) })
 
-hosts_take : IsForm (codes "host", host_form)
+keys_take : IsLineForm (codes "key", key_form)
+unfolding key_form
+keys_take =
+    three_takes line_words HasRanges (codes "key") names (sized_words 8) (sized_words 8)
+    (λ level main check. line.Key level (key_pair main check))
+    (λ x y z p q r. record {
+      spelled = refl;
+      fits = (
+        p,
+        record {
+          main = record { len = q.0; bytes = q.1 };
+          check = record { len = r.0; bytes = r.1 };
+        },
+      );
+    })
+
+guards_take : IsLineForm (codes "guard", guard_form)
+unfolding guard_form
+guards_take =
+    two_takes line_words HasRanges (codes "guard") (sized_words 8) (sized_words 8)
+    (λ main check. line.Guard (key_pair main check))
+    (λ x y p q. record {
+      spelled = refl;
+      fits = record {
+        main = record { len = p.0; bytes = p.1 };
+        check = record { len = q.0; bytes = q.1 };
+      };
+    })
+
+hosts_take : IsLineForm (codes "host", host_form)
 unfolding host_form
-hosts_take = two_takes addresses names (codes "host") (λ address level. line.Host address level)
-    (λ x y p q. record { spelled = refl; fits = ((p, q), tt) })
+hosts_take = two_takes line_words HasRanges (codes "host") addresses names
+    (λ address level. line.Host address level)
+    (λ x y p q. record { spelled = refl; fits = (p, q) })
 
-begins_take : IsForm (codes "begin", nothing line.Begin)
-begins_take = nothing_takes (codes "begin") line.Begin (record { spelled = refl; fits = (tt, tt) })
+no_action : (action : StoreWords) → action_read [] ≡ Some action → ⊥
+unfolding action_read
+no_action action e = absurd cc
 
-sends_take : IsForm (codes "send", send_form)
-unfolding send_form
-sends_take = three_takes addresses parties messages (codes "send")
-    (λ from to message. line.Event (line.Send from to message))
-    (λ x y z p q r. record { spelled = refl; fits = ((p, q.0, r), q.1) })
+stores_take : IsLineForm (codes "store", store_form)
+unfolding store_form
+stores_take [] made e = absurd cc
+stores_take (reader ∷ []) made e =
+    let x = bind_some (name_read reader) (λ name. action_read [] >>= λ action.
+    Some (line.Store name action)) made e in
+    let y = bind_some (action_read []) (λ action. Some (line.Store x.0 action)) made x.2 in
+    absurd (no_action y.0 y.1)
+stores_take (reader ∷ first ∷ args) made e =
+    let x = bind_some (name_read reader) (λ name. action_read (first ∷ args) >>= λ action.
+    Some (line.Store name action)) made e in
+    let y = bind_some (action_read (first ∷ args)) (λ action. Some (line.Store x.0 action)) made
+    x.2 in
+    let tx = names.takes reader x.0 x.1 in
+    let ty = actions_take first args y.0 y.1 in
+    let good : IsSpelledBy line_words HasRanges (codes "store") (reader ∷ first ∷ args)
+    (line.Store x.0 y.0) =
+    record { spelled = cc (tx.0, ty.spelled); fits = (tx.1, ty.fits) } in
+    subst (IsSpelledBy line_words HasRanges (codes "store") (reader ∷ first ∷ args))
+    (some_same (line.Store x.0 y.0) made y.2) good
 
-delivers_take : IsForm (codes "deliver", deliver_form)
-unfolding deliver_form
-delivers_take = three_takes piece_words to_word parties (codes "deliver")
-    (λ piece to at. line.Event (line.Deliver piece.0 piece.1.0 piece.1.1 at))
-    (λ x y z p q r. record {
-      spelled = refl;
-      fits =
-          (((p.0.0.0, p.0.1.0), p.1.0, p.1.1, r.0), ((p.0.0.1, p.0.1.1), r.1));
-    })
+begins_take : IsLineForm (codes "begin", nothing line.Begin)
+begins_take = nothing_takes line_words HasRanges (codes "begin") line.Begin
+    (record { spelled = refl; fits = tt })
 
-carries_take : IsForm (codes "carry", carry_form)
-unfolding carry_form
-carries_take = three_takes message_words to_word parties (codes "carry")
-    (λ message to at. line.Event (line.Carry message.0 message.1 at))
-    (λ x y z p q r. record {
-      spelled = refl;
-      fits =
-          (((p.0.0.0, p.0.1.0), p.1, r.0), ((p.0.0.1, p.0.1.1), r.1));
-    })
+ends_take : IsLineForm (codes "end", nothing line.End)
+ends_take = nothing_takes line_words HasRanges (codes "end") line.End
+    (record { spelled = refl; fits = tt })
 
-ends_take : IsForm (codes "end", nothing line.End)
-ends_take = nothing_takes (codes "end") line.End (record { spelled = refl; fits = (tt, tt) })
-
-forms_take : AllByRecursion IsForm forms
+forms_take : AllByRecursion IsLineForm line_forms
 forms_take = (
   versions_take,
   (
-    levels_take,
+    seals_take,
     (
-      hosts_take,
-      (begins_take, (sends_take, (delivers_take, (carries_take, (ends_take, tt))))),
+      levels_take,
+      (
+        keys_take,
+        (guards_take, (hosts_take, (stores_take, (begins_take, (ends_take, tt))))),
+      ),
     ),
   ),
 )
@@ -205,49 +209,87 @@ forms_take = (
 -- ---- whole lines
 
 words_take : (ws : List (List ℕ)) (made : Line) → form_read ws ≡ Some made → (ws ≡ line_words made)
-    × IsReadable made
+    × HasRanges made
 unfolding form_read
 words_take [] made e = absurd cc
 words_take (first ∷ args) made e =
-    let s = read_by_takes forms forms_take first args made e in
+    let s = read_by_takes line_words HasRanges line_forms event_read forms_take events_take first
+    args made e in
     (sym s.spelled, s.fits)
 
-stream_fits : (stream : StreamWord) → HasStreamRanges stream → NamesHosts stream → StreamFits stream
-stream_fits stream ranges hosts = ((ranges.0, hosts.0), (ranges.1, hosts.1))
+call_again : (from : ℕ) (call : CallWords) → HasRanges (asked from call)
+    → form_read (call_words from call) ≡ Some (asked from call)
+unfolding form_read event_read call_read put_form get_form list_form remove_form append_form block_form
+call_again from (line.Put name content) fits =
+    rw (addresses.again from fits.0, files.again name fits.1.0, contents.again content fits.1.1)
+    refl
+call_again from (line.Get level name) fits =
+    rw (addresses.again from fits.0, names.again level fits.1.0, files.again name fits.1.1) refl
+call_again from (line.ListNames level) fits =
+    rw (addresses.again from fits.0, names.again level fits.1) refl
+call_again from (line.Remove name) fits =
+    rw (addresses.again from fits.0, files.again name fits.1) refl
+call_again from (line.Append name content) fits =
+    rw (addresses.again from fits.0, files.again name fits.1.0, contents.again content fits.1.1)
+    refl
+call_again from (line.Block level name block) fits =
+    rw (
+      addresses.again from fits.0,
+      names.again level fits.1.0,
+      files.again name fits.1.1,
+      blocks.again block fits.1.2,
+    ) refl
 
-words_again : (made : Line) → IsReadable made → form_read (line_words made) ≡ Some made
-unfolding form_read version_form level_form host_form send_form deliver_form carry_form
+event_again : (words : EventWords) → HasRanges (line.Event words)
+    → form_read (event_words words) ≡ Some (line.Event words)
+unfolding form_read event_read send_form deliver_form carry_form forge_form tamper_form
+event_again (line.Send from to message) fits =
+    rw (addresses.again from fits.0, parties.again to fits.1, messages.again message fits.2) refl
+event_again (line.Ask from call) fits = call_again from call fits
+event_again (line.Deliver stream message piece at) fits =
+    rw (
+      piece_words.again (stream, (message, piece)) (fits.0, (fits.1, fits.2)),
+      parties.again at fits.3,
+    ) refl
+event_again (line.Carry stream message at) fits =
+    rw (message_words.again (stream, message) (fits.0, fits.1), parties.again at fits.2) refl
+event_again (line.Forge at bytes) fits =
+    rw (parties.again at fits.0, (sized_words 128).again bytes (fits.1, fits.2)) refl
+event_again (line.Tamper stream message piece at []) fits = absurd (omega (arith, fits.4.some))
+event_again (line.Tamper stream message piece at (edit ∷ edits)) fits =
+    rw (
+      piece_words.again (stream, (message, piece)) (fits.0, (fits.1, fits.2)),
+      parties.again at fits.3,
+      edits_again 8 0 (edit ∷ edits) fits.4.few (are_rise (edit ∷ edits) fits.4),
+    ) refl
+
+words_again : (made : Line) → HasRanges made → form_read (line_words made) ≡ Some made
+unfolding form_read version_form seal_form level_form key_form guard_form host_form store_form
 words_again line.Version fits = refl
-words_again line.Seal fits = absurd fits.1
+words_again line.Seal fits = refl
 words_again (line.Level name level) fits =
     rw (
-      names.again name fits.0.0,
-      ranks.again level.rank fits.0.1,
-      categories.again level.cats fits.0.2,
+      names.again name fits.0,
+      ranks.again level.rank fits.1,
+      categories.again level.cats fits.2,
     ) refl
-words_again (line.Key level pair) fits = absurd fits.1
-words_again (line.Guard pair) fits = absurd fits.1
-words_again (line.Host address level) fits =
-    rw (addresses.again address fits.0.0, names.again level fits.0.1) refl
-words_again (line.Store reader action) fits = absurd fits.1
-words_again line.Begin fits = refl
-words_again (line.Event (line.Send from to message)) fits =
+words_again (line.Key level pair) fits =
     rw (
-      addresses.again from fits.0.0,
-      parties.again to (fits.0.1, fits.1),
-      messages.again message fits.0.2,
+      names.again level fits.0,
+      (sized_words 8).again pair.main (fits.1.main.len, fits.1.main.bytes),
+      (sized_words 8).again pair.check (fits.1.check.len, fits.1.check.bytes),
     ) refl
-words_again (line.Event (line.Ask from call)) fits = absurd fits.1
-words_again (line.Event (line.Deliver stream message piece at)) fits =
-    let named = piece_words.again (stream, (message, piece))
-    (stream_fits stream fits.0.0 fits.1.0, (fits.0.1, fits.0.2)) in
-    rw (named, parties.again at (fits.0.3, fits.1.1)) refl
-words_again (line.Event (line.Carry stream message at)) fits =
-    let named = message_words.again (stream, message)
-    (stream_fits stream fits.0.0 fits.1.0, fits.0.1) in
-    rw (named, parties.again at (fits.0.2, fits.1.1)) refl
-words_again (line.Event (line.Forge at bytes)) fits = absurd fits.1
-words_again (line.Event (line.Tamper stream message piece at edits)) fits = absurd fits.1
+words_again (line.Guard pair) fits =
+    rw (
+      (sized_words 8).again pair.main (fits.main.len, fits.main.bytes),
+      (sized_words 8).again pair.check (fits.check.len, fits.check.bytes),
+    ) refl
+words_again (line.Host address level) fits =
+    rw (addresses.again address fits.0, names.again level fits.1) refl
+words_again (line.Store reader action) fits =
+    rw (names.again reader fits.0, action_again action fits.1) refl
+words_again line.Begin fits = refl
+words_again (line.Event words) fits = event_again words fits
 words_again line.End fits = refl
 
 some_words : (made : Line) → 0 < length (line_words made)
@@ -298,9 +340,9 @@ line_takes text made e =
     let t = words_take (words text) made e in
     (sym (join_with_byte-slice_split 32 text) ∙ ap (join_with_byte 32) t.0, t.1)
 
-pub line_again : (made : Line) → IsReadable made → line_read (line_text made) ≡ Some made
+pub line_again : (made : Line) → HasRanges made → line_read (line_text made) ≡ Some made
 line_again made fits =
-    rw (words-join (line_words made) (some_words made) (words_ink made (ranges_held made fits.0)))
+    rw (words-join (line_words made) (some_words made) (words_ink made (ranges_held made fits)))
     (words_again made fits)
 
 pub spelled_is_read : (text : List ℕ) (made : Line) → Spells text made → line_read text ≡ Some made

@@ -1,5 +1,5 @@
 -- What is found in lists without two elements of one key.
-use Rattle.std.proofs.Common.{zero, suc, ◌≡◌, ◌≢◌, ℕ, ◌+◌, ◌<◌, ◌≤◌, Bool, true, false, ◌||◌, eqb, List, [], ◌∷◌, ◌++◌, length, Option, Some, None, refl, ap, ◌∙◌, arith, inl, inr}
+use Rattle.std.proofs.Common.{zero, suc, ◌≡◌, ◌≢◌, ℕ, ◌+◌, ◌<◌, ◌≤◌, Bool, true, false, ◌||◌, eqb, List, [], ◌∷◌, ◌++◌, length, Option, Some, None, refl, sym, ap, ◌∙◌, arith, inl, inr}
 use Rattle.std.specs.Prelude.{slice_get, position, find, ◌==◌, is_none}
 use Rattle.std.specs.List.{list_any, position_or_len, AllByRecursion}
 use Rattle.std.specs.Str.{bytes_eq}
@@ -28,7 +28,7 @@ get_right [] ys i = ap (slice_get ys) (omega arith)
 get_right (x ∷ xs) ys i = let s : suc (length xs) + i ≡ suc (length xs + i) = omega arith in
     ap (slice_get (x ∷ (xs ++ ys))) s ∙ get_right xs ys i
 
-get_next : {X : Type 0} (xs : List X) (x : X) (ys : List X)
+pub get_next : {X : Type 0} (xs : List X) (x : X) (ys : List X)
     → slice_get (xs ++ x ∷ ys) (length xs) ≡ Some x
 get_next xs x ys = let s : length xs ≡ length xs + 0 = omega arith in
     ap (slice_get (xs ++ x ∷ ys)) s ∙ get_right xs (x ∷ ys) 0
@@ -42,7 +42,7 @@ key_fresh key seen x more apart i a here same =
     let lt = slice_get_within seen i a here in
     absurd (omega arith)
 
-any_none : {X : Type 0} (p : X → Bool) (xs : List X)
+pub any_none : {X : Type 0} (p : X → Bool) (xs : List X)
     → ((i : ℕ) (a : X) → slice_get xs i ≡ Some a → p a ≡ false) → list_any p xs ≡ false
 any_none p [] none = refl
 any_none p (x ∷ xs) none = rw (none 0 x refl) (any_none p xs (λ i a here. none (suc i) a here))
@@ -59,12 +59,13 @@ name_differs a b ne =
       | inr not ↦ not
     ]
 
-level_same : (a b : Level) → is_same_level a b ≡ true → a ≡ b
-level_same a b e =
-    let rank : a.rank ≡ b.rank = grind (arith, nat_tests) in
-    let cats : a.cats ≡ b.cats = grind (arith, nat_tests) in
+fields_same : (a b : Level) → a.rank ≡ b.rank → a.cats ≡ b.cats → a ≡ b
+fields_same a b rank cats =
     ap (λ (n : ℕ). record { rank = n; cats = a.cats }) rank
     ∙ ap (λ (n : ℕ). record { rank = b.rank; cats = n }) cats
+
+level_same : (a b : Level) → is_same_level a b ≡ true → a ≡ b
+level_same a b e = fields_same a b (grind (arith, nat_tests)) (grind (arith, nat_tests))
 
 value_differs : (a b : Level) → a ≢ b → is_same_level a b ≡ false
 value_differs a b ne =
@@ -149,3 +150,13 @@ name_back roster place lt apart =
     (λ j y here good. apart j place y row.0 here row.1
     ((bytes_eq-Decides y.name row.0.name).0 good)) in
     rw name (ap (λ (o : Option ℕ). option_map (λ (n : ℕ). record { 0 = n }) o) at)
+
+-- a row in its place is found by its name
+pub name_place : (roster : RosterView) (place : ℕ) (row : LevelRow)
+    → slice_get roster.levels place ≡ Some row
+    → AreApart (λ (r : LevelRow). r.name) roster.levels
+    → level_named roster row.name ≡ Some (record { 0 = place })
+name_place roster place row here apart =
+    let name : name_or_none roster place ≡ row.name = rw here refl in
+    let lt = slice_get_within roster.levels place row here in
+    ap (level_named roster) (sym name) ∙ name_back roster place lt apart

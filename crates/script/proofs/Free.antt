@@ -1,5 +1,5 @@
 -- Lines that nothing is against, and what stands behind lines.
-use Rattle.std.proofs.Common.{◌≡◌, List, [], ◌∷◌, ◌++◌, Bool, true, false, cond, not, Option, Some, None, refl, sym, ap, ◌∙◌, inl, inr, append_assoc, ◌⊎◌, ℕ}
+use Rattle.std.proofs.Common.{◌≡◌, List, [], ◌∷◌, ◌++◌, Bool, true, false, cond, not, Option, Some, None, refl, sym, ap, subst, ◌∙◌, inl, inr, append_assoc, ◌⊎◌, ℕ}
 use Rattle.std.specs.List.{AllByRecursion, flat_map}
 use Rattle.std.proofs.lemmas.List.Concat.{flat_map-append}
 use Rattle.std.proofs.lemmas.List.{append-nil}
@@ -7,9 +7,11 @@ use Rattle.script.specs.declared.refusal.Reason.{Reason}
 use Rattle.script.specs.declared.refusal.Reason.TheVariants as why
 use Rattle.script.specs.Lines.{Line}
 use Rattle.script.specs.Spelling.{line_text, ended_text}
+use Rattle.script.specs.Ranges.{HasRanges}
 use Rattle.script.specs.Facts.{kind_of, Facts, facts}
-use Rattle.script.specs.Reasons.{may_follow, has_names, is_new, has_room, against, IsReadable, AreFree, BeginsWith, Spells}
-use Rattle.script.proofs.Pushes.{Stand, stand_first, stand_push}
+use Rattle.script.specs.Reasons.{may_follow, has_names, is_new, has_room, has_good_keys, against, AreFree, BeginsWith, Spells}
+use Rattle.script.proofs.Tools.{some_same}
+use Rattle.script.proofs.Order.{Stand, stand_first, stand_push}
 
 -- ---- no line, one more line
 
@@ -52,7 +54,7 @@ all_push P [] x all now = (now, tt)
 all_push P (y ∷ ys) x all now = (all.0, all_push P ys x all.1 now)
 
 pub begins_none : (bytes : List ℕ) → BeginsWith bytes [] bytes
-begins_none bytes = record { spelled = refl; readable = tt; free = free_none }
+begins_none bytes = record { spelled = refl; ranges = tt; free = free_none }
 
 -- a text begins with one line more
 pub begins_push : (bytes : List ℕ) (lines : List Line) (rest text behind : List ℕ) (read : Line)
@@ -72,7 +74,7 @@ begins_push bytes lines rest text behind read begins cut spells free =
           begins.spelled ∙ ap (λ (t : List ℕ). said ++ t) next
           ∙ sym (append_assoc said (ended_text read) behind)
           ∙ ap (λ (t : List ℕ). t ++ behind) (sym all);
-      readable = all_push IsReadable lines read begins.readable spells.1;
+      ranges = all_push HasRanges lines read begins.ranges spells.1;
       free = free_push lines read begins.free free;
     }
 
@@ -80,9 +82,10 @@ begins_push bytes lines rest text behind read begins cut spells free =
 
 -- where nothing is against a line, it may stand there and what it names is known
 pub allowed : (said : Facts) (next : Line) → against said next ≡ None
-    → (may_follow said.last (kind_of next) ≡ true) × (has_names said next ≡ true)
+    → (may_follow said.roster said.last (kind_of next) ≡ true) × (has_names said next ≡ true)
 unfolding against
-allowed said next e = by_tests (may_follow said.last (kind_of next)) (has_names said next) _ e
+allowed said next e =
+    by_tests (may_follow said.roster said.last (kind_of next)) (has_names said next) _ e
   where
     by_tests : (may known : Bool) (rest : Option Reason)
         → cond (not may) (Some why.Place) (cond (not known) (Some why.Name) rest) ≡ None
@@ -97,32 +100,25 @@ IsOfLines why.Form = ⊥
 IsOfLines why.End = ⊥
 IsOfLines reason = Unit {0}
 
+-- where a test fails, its reason is the first
+else_reason : (test : Bool) (first reason : Reason) (rest : Option Reason) → IsOfLines first
+    → ((reason : Reason) → rest ≡ Some reason → IsOfLines reason)
+    → cond (not test) (Some first) rest ≡ Some reason → IsOfLines reason
+else_reason true first reason rest of more e = more reason e
+else_reason false first reason rest of more e = subst IsOfLines (some_same first reason e) of
+
+no_reason : (reason : Reason) → None ≡ Some reason → IsOfLines reason
+no_reason reason e = absurd cc
+
 pub of_lines : (said : Facts) (next : Line) (reason : Reason) → against said next ≡ Some reason
     → IsOfLines reason
 unfolding against
-of_lines said next reason e = by_tests (may_follow said.last (kind_of next)) (has_names said next)
-    (is_new said next) (has_room said next) reason e
-  where
-    by_tests : (may known new room : Bool) (reason : Reason)
-        → cond (not may) (Some why.Place)
-        (cond (not known) (Some why.Name)
-        (cond (not new) (Some why.Twice) (cond (not room) (Some why.Many) None))) ≡ Some reason
-        → IsOfLines reason
-    by_tests may known new room why.Place e = tt
-    by_tests may known new room why.Name e = tt
-    by_tests may known new room why.Twice e = tt
-    by_tests may known new room why.Many e = tt
-    by_tests may known new room why.Key e = tt
-    by_tests false known new room why.Form e = absurd cc
-    by_tests true false new room why.Form e = absurd cc
-    by_tests true true false room why.Form e = absurd cc
-    by_tests true true true false why.Form e = absurd cc
-    by_tests true true true true why.Form e = absurd cc
-    by_tests false known new room why.End e = absurd cc
-    by_tests true false new room why.End e = absurd cc
-    by_tests true true false room why.End e = absurd cc
-    by_tests true true true false why.End e = absurd cc
-    by_tests true true true true why.End e = absurd cc
+of_lines said next reason e =
+    else_reason (may_follow said.roster said.last (kind_of next)) why.Place reason _ tt
+    (λ r. else_reason (has_names said next) why.Name r _ tt
+    (λ r. else_reason (is_new said next) why.Twice r _ tt
+    (λ r. else_reason (has_room said next) why.Many r _ tt
+    (λ r. else_reason (has_good_keys said next) why.Key r _ tt no_reason)))) e
 
 -- ---- free lines stand in order
 

@@ -149,6 +149,12 @@ hex_again (byte ∷ bytes) fits =
     let long = lt-ltb 0 (length (encode_lower (byte ∷ bytes))) (omega arith) in
     rw (other, low, long, decode_of-encode_lower (byte ∷ bytes) fits) refl
 
+-- the digits of some bytes
+pub hex_digits : (bytes : List ℕ) → 0 < length bytes → IsBytes bytes
+    → list_all is_lower_digit (hex_word bytes) ≡ true
+hex_digits [] some fits = absurd (omega arith)
+hex_digits (byte ∷ bytes) some fits = encoded_lower (byte ∷ bytes) fits
+
 pub hex_ink : (bytes : List ℕ) → IsBytes bytes → IsInk (hex_word bytes)
 hex_ink [] fits = refl
 hex_ink (byte ∷ bytes) fits = weaker is_lower_digit is_ink (λ c h. grind (arith, nat_tests))

@@ -37,12 +37,12 @@ name_ink word fits =
     (list_all is_name_mark word) fits in
     weaker is_name_mark is_ink (λ c h. grind (arith, nat_tests)) word b.1
 
-file_ink : (word : List ℕ) → IsFileName word → IsInk word
+pub file_ink : (word : List ℕ) → IsFileName word → IsInk word
 file_ink word fits =
     let b = both (ltb 0 (length word) && leb (length word) 32) (list_all is_file_mark word) fits in
     weaker is_file_mark is_ink (λ c h. grind (arith, nat_tests)) word b.1
 
-content_ink : (bytes : List ℕ) → IsContent bytes → IsInk (hex_word bytes)
+pub content_ink : (bytes : List ℕ) → IsContent bytes → IsInk (hex_word bytes)
 content_ink bytes fits =
     let b = both (leb (length bytes) 4096) (list_all is_byte bytes) fits in
     hex_ink bytes (are_bytes bytes b.1).below
@@ -84,7 +84,7 @@ one_byte : (byte : ℕ) → byte < 256 → (i : ℕ) → slice_index (byte ∷ [
 one_byte byte lt zero = lt
 one_byte byte lt (suc i) = omega arith
 
-byte_ink : (byte : ℕ) → byte < 256 → IsInk (byte_text byte)
+pub byte_ink : (byte : ℕ) → byte < 256 → IsInk (byte_text byte)
 byte_ink byte lt = hex_ink (byte ∷ []) (one_byte byte lt)
 
 edits_ink : (edits : List (ℕ × ℕ)) → All (λ (e : ℕ × ℕ). e.0 < 128) edits

@@ -106,7 +106,7 @@ cats_again cats lt =
 rising_below : (n letter : ℕ) (word : List ℕ) → (rising n letter word).0 < 2 ^ n
 unfolding rising
 rising_below zero letter word = omega arith
-rising_below (suc n) letter [] = omega (arith, rising_below n letter [], rising-nil n letter)
+rising_below (suc n) letter [] = omega (arith, rising_below n letter [])
 rising_below (suc n) letter (c ∷ word) =
     elim (cases_Bool (eqb c letter)) [
       | inl is ↦ rw is (omega (arith, pow-suc 2 n, rising_below n (letter + 1) word))

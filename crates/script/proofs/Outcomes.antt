@@ -11,16 +11,16 @@ use Rattle.script.specs.declared.refusal.Reason.TheVariants as why
 use Rattle.script.specs.declared.refusal.Refusal.{Refusal}
 use Rattle.script.specs.Lines.{Line}
 use Rattle.script.specs.Spelling.{line_text, ended_text}
+use Rattle.script.specs.Ranges.{HasRanges}
 use Rattle.script.specs.Facts.{Facts, facts, script_said}
-use Rattle.script.specs.Reasons.{against, IsReadable, Spells, BeginsWith, IsRefused, FirstRefusal, IsScriptOf, IsClean}
+use Rattle.script.specs.Reasons.{against, Spells, BeginsWith, IsRefused, FirstRefusal, IsScriptOf, IsClean}
 use Rattle.script.specs.inside.Readers.{line_read}
 use Rattle.script.specs.inside.Stages.{reason_of, at_end, after}
 use Rattle.script.specs.Laws.{EachTextHasOneOutcome, CleanTextsAreTheirOwn}
 use Rattle.script.proofs.Forms.{line_again}
-use Rattle.script.proofs.Pushes.{script_with}
-use Rattle.script.proofs.Hosts.{all_right}
+use Rattle.script.proofs.Tools.{all_right}
 use Rattle.script.proofs.Reached.{parts, Reached, reached_none, spelled_part, goes_on, stops, ends_badly}
-use Rattle.script.proofs.Looping.{whole_text, ends_well}
+use Rattle.script.proofs.Looping.{said_by, whole_text, ends_well}
 
 -- ---- some outcome
 
@@ -63,7 +63,7 @@ module _ (bytes : List ℕ) (short : length bytes ≤ TEXT_LIMIT) where
     where
       by_reason : (o : Option Reason) → at_end said.ended rest ≡ o → Outcome bytes
       by_reason None e = inl (
-        script_with said.roster said.events,
+        said_by said,
         ends_well bytes count rest said short at e,
       )
       by_reason (Some reason) e = refused count rest said reason at
@@ -143,7 +143,7 @@ Ahead xs r ys s = (more : List Line) × (ys ≡ xs ++ more) × (r ≡ flat_map e
 
 same_start : (xs ys : List Line) (r s : List ℕ)
     → flat_map ended_text xs ++ r ≡ flat_map ended_text ys ++ s
-    → AllByRecursion IsReadable xs → AllByRecursion IsReadable ys → Ahead xs r ys s
+    → AllByRecursion HasRanges xs → AllByRecursion HasRanges ys → Ahead xs r ys s
     ⊎ Ahead ys s xs r
 same_start [] ys r s e fits good = inl (ys, refl, e)
 same_start (x ∷ xs) [] r s e fits good = inr (x ∷ xs, refl, sym e)
@@ -224,7 +224,7 @@ same_reason above rest r q (inr (inr a)) (inr (inr b)) =
 -- what is refused doesn't begin with a line that nothing is against
 refused_here : (above : List Line) (rest : List ℕ) (reason : Reason) (next : Line) (more : List ℕ)
     → AsRefused above rest reason
-    → rest ≡ line_text next ++ 10 ∷ more → IsReadable next → against (facts above) next ≡ None → ⊥
+    → rest ≡ line_text next ++ 10 ∷ more → HasRanges next → against (facts above) next ≡ None → ⊥
 refused_here above rest reason next more (inl a) cut fits free =
     a.1.1 (line_text next) more next cut (refl, fits)
 refused_here above rest reason next more (inr (inl a)) cut fits free =
@@ -244,7 +244,7 @@ module _ (bytes : List ℕ) (above : List Line) (rest : List ℕ) (reason : Reas
       let cut' : rest ≡ line_text next ++ 10 ∷ behind = cut
       ∙ append_assoc (ended_text next) (flat_map ended_text more) s'
       ∙ ended_first next behind in
-      let fits = all_right IsReadable above (next ∷ more) (rw e at begins.readable) in
+      let fits = all_right HasRanges above (next ∷ more) (rw e at begins.ranges) in
       refused_here above rest reason next behind is cut' fits.0 (begins.free above next more e)
 
   refused_at_end : rest ≡ [] → (facts above).ended ≡ false
@@ -257,8 +257,8 @@ module _ (bytes : List ℕ) (above : List Line) (rest : List ℕ) (reason : Reas
 
   no_script : (script : ScriptView) → BeginsWith bytes above rest → IsScriptOf bytes script → ⊥
   no_script script begins of =
-      elim (same_start above of.lines rest [] (sym begins.spelled ∙ of.read.spelled) begins.readable
-      of.read.readable) [
+      elim (same_start above of.lines rest [] (sym begins.spelled ∙ of.read.spelled) begins.ranges
+      of.read.ranges) [
         | inl ahead ↦ on_with ahead.0 ahead.1 ahead.2
         | inr ahead ↦ back_with ahead.0 ahead.1 ahead.2
       ]
@@ -292,7 +292,7 @@ module _ (bytes : List ℕ) (above : List Line) (rest : List ℕ) (reason : Reas
   one_refusal : (length above ≡ length above') × (reason ≡ reason')
   one_refusal =
       elim (same_start above above' rest rest' (sym begins.spelled ∙ begins'.spelled)
-      begins.readable begins'.readable) [
+      begins.ranges begins'.ranges) [
         | inl ahead ↦ on_with ahead.0 ahead.1 ahead.2
         | inr ahead ↦ back_with ahead.0 ahead.1 ahead.2
       ]
@@ -341,7 +341,7 @@ never_two_scripts : (bytes : List ℕ) (a b : ScriptView) → IsScriptOf bytes a
     → a ≡ b
 never_two_scripts bytes a b first second =
     elim (same_start first.lines second.lines [] [] (sym first.read.spelled ∙ second.read.spelled)
-    first.read.readable second.read.readable) [
+    first.read.ranges second.read.ranges) [
       | inl ahead ↦ by_more first.lines second.lines a b first.says second.says ahead.0 ahead.1
           ahead.2
       | inr ahead ↦ sym (by_more second.lines first.lines b a second.says first.says ahead.0 ahead.1

@@ -13,7 +13,7 @@ use Rattle.script.specs.inside.Stages.{reason_of, at_end, after}
 use Rattle.script.proofs.Cutting.{some_part}
 use Rattle.script.proofs.Inks.{ranges_held, no_newline}
 use Rattle.script.proofs.Forms.{line_takes, spelled_is_read}
-use Rattle.script.proofs.Pushes.{Stand, stand_first, stand_push}
+use Rattle.script.proofs.Order.{Stand, stand_first, stand_push}
 use Rattle.script.proofs.Free.{begins_none, begins_push, allowed, IsOfLines, of_lines}
 
 -- a text cut at its newlines
@@ -50,7 +50,7 @@ cut_is rest text behind cut =
 pub spelled_part : (rest text more : List ℕ) (read : Line) → rest ≡ text ++ 10 ∷ more
     → Spells text read → parts rest ≡ text ∷ parts more
 spelled_part rest text more read cut spells =
-    let lacks = no_newline read (ranges_held read spells.1.0) in
+    let lacks = no_newline read (ranges_held read spells.1) in
     ap parts (cut ∙ ap (λ (t : List ℕ). t ++ 10 ∷ more) spells.0)
     ∙ slice_split_at _ (line_text read) 10 more lacks refl
     ∙ ap (λ (t : List ℕ). t ∷ parts more) (sym spells.0)

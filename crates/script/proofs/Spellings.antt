@@ -1,9 +1,9 @@
 -- Words both ways: what is read is spelled so, and what is spelled is read.
-use Rattle.std.proofs.Common.{◌≡◌, ℕ, ◌^◌, ◌<◌, true, false, eqb, List, [], ◌∷◌, ◌++◌, Option, Some, refl, sym, ap, subst, ◌∙◌, arith, lit<}
-use Rattle.std.specs.List.{slice_split, join_with_byte}
+use Rattle.std.proofs.Common.{◌≡◌, ℕ, ◌^◌, ◌<◌, Bool, true, false, ◌&&◌, eqb, ltb, leb, List, [], ◌∷◌, ◌++◌, length, get_or, Option, Some, None, refl, sym, ap, subst, ◌∙◌, arith, lit<}
+use Rattle.std.specs.List.{slice_split, join_with_byte, list_all}
 use Rattle.std.specs.Char.{is_ascii_digit}
 use Rattle.std.specs.Fmt.{decimal}
-use Rattle.std.specs.Str.{bytes_eq}
+use Rattle.std.specs.Str.{bytes_eq, all_ascii_digits}
 use Rattle.std.proofs.lemmas.List.Elements.{All-append, All-cons}
 use Rattle.std.proofs.lemmas.List.Folds.{list_all-append}
 use Rattle.std.proofs.lemmas.List.Splits.{slice_split_at, slice_split_none, join_with_byte-slice_split}
@@ -11,17 +11,17 @@ use Rattle.std.proofs.lemmas.Bool.{eq-eqb}
 use Rattle.std.proofs.lemmas.Bool.Decides.{nat_tests}
 use Rattle.std.proofs.lemmas.Slice.Eq.{bytes_eq-Decides}
 use Rattle.seal_core.specs.Blocks.{AreBytes}
-use Rattle.levels.specs.Names.{is_level_name}
+use Rattle.levels.specs.Names.{is_level_name, is_name_mark, is_upper}
 use Rattle.script.specs.declared.line.PartyWord.{PartyWord}
 use Rattle.script.specs.declared.line.PartyWord.TheVariants.{Address, Name}
 use Rattle.script.specs.declared.line.StreamWord.{StreamWord}
 use Rattle.events.specs.Words.{hex_word}
 use Rattle.script.specs.Spelling.{cats_word, party_text, stream_text, message_text, numbers_text, piece_text}
-use Rattle.script.specs.Ranges.{InRange, IsLevelName, HasPartyRange}
-use Rattle.script.specs.Today.{NamesHost}
-use Rattle.script.specs.Facts.{◌>>=◌}
-use Rattle.script.specs.inside.Readers.{number_read, name_read, cats_read, party_read, hex_read, exactly, as_two, parted, stream, together, stream_read, message_read, numbers_read, piece_read}
-use Rattle.script.proofs.Tools.{bind_some, guard_some, some_same, is_ink, IsInk, Lacks, lacks}
+use Rattle.script.specs.Ranges.{InRange, IsLevelName, HasPartyRange, HasStreamRanges}
+use Rattle.script.specs.Naming.{◌>>=◌}
+use Rattle.script.specs.Naming.{either}
+use Rattle.script.specs.inside.Readers.{is_unpadded, number_read, name_read, cats_read, manager_read, party_read, hex_read, exactly, as_two, parted, stream, together, stream_read, message_read, numbers_read, piece_read}
+use Rattle.script.proofs.Tools.{both, bind_some, guard_some, some_same, is_ink, IsInk, Lacks, lacks}
 use Rattle.script.proofs.Numbers.{number_takes, number_again, decimal_digits}
 use Rattle.script.proofs.Inks.{decimal_ink, name_ink, party_ink}
 use Rattle.script.proofs.Letters.{cats_takes, cats_again, cats_ink}
@@ -75,29 +75,54 @@ fixed text x inked = record {
 
 -- ---- parties
 
--- a party that a line that is read can name: a host by its address
-abbrev pub PartyFits : PartyWord → Type 0
-PartyFits party = HasPartyRange party × NamesHost party
+digit_first : (c : ℕ) (cs : List ℕ) → is_upper c ≡ true → all_ascii_digits (c ∷ cs) ≡ false
+digit_first c cs upper =
+    let other : is_ascii_digit c ≡ false = grind (arith, nat_tests) in
+    rw other refl
 
-pub parties : IsWord party_text PartyFits party_read
-unfolding party_read
-parties = record { takes = takes; again = again; ink = λ party fits. party_ink party fits.0 }
+-- the name of a level is no number
+name_no_number : (low high : ℕ) (word : List ℕ) → IsLevelName word → number_read low high word ≡ None
+unfolding number_read
+name_no_number low high [] fits = absurd cc
+name_no_number low high (c ∷ cs) fits =
+    let word = c ∷ cs in
+    let short = ltb 0 (length word) && leb (length word) 8 in
+    let front = both (short && is_upper c) (list_all is_name_mark word) fits in
+    let upper = both short (is_upper c) front.0 in
+    rw (digit_first c cs upper.1, and_false (is_unpadded word)) refl
   where
-    takes : (word : List ℕ) (party : PartyWord) → party_read word ≡ Some party
-        → (word ≡ party_text party) × PartyFits party
-    takes word party e =
-        let n = bind_some (number_read 1 250 word) (λ address. Some (Address address)) party e in
-        let t = number_takes 1 250 word n.0 (lit< tt) n.1 in
-        let same : Address n.0 ≡ party = some_same (Address n.0) party n.2 in
-        subst (λ (p : PartyWord). (word ≡ party_text p) × PartyFits p) same (t.0, ((t.1, t.2), tt))
+    and_false : (b : Bool) → (b && false) ≡ false
+    and_false true = refl
+    and_false false = refl
 
-    again : (party : PartyWord) → PartyFits party → party_read (party_text party) ≡ Some party
-    again (Address address) fits = rw (number_again 1 250 address (lit< tt) fits.0.0 fits.0.1) refl
-    again (Name level) fits = absurd fits.1
+pub parties : IsWord party_text HasPartyRange party_read
+unfolding party_read
+parties = record { takes = takes; again = again; ink = λ party fits. party_ink party fits }
+  where
+    by_number : (word : List ℕ) (party : PartyWord) (o : Option ℕ) → number_read 1 250 word ≡ o
+        → either (o >>= λ address. Some (Address address)) (manager_read word) ≡ Some party
+        → (word ≡ party_text party) × HasPartyRange party
+    by_number word party (Some address) is e =
+        let t = number_takes 1 250 word address (lit< tt) is in
+        let same : Address address ≡ party = some_same (Address address) party e in
+        subst (λ (p : PartyWord). (word ≡ party_text p) × HasPartyRange p) same (t.0, (t.1, t.2))
+    by_number word party None is e =
+        let n = bind_some (name_read word) (λ level. Some (Name level)) party e in
+        let same : Name n.0 ≡ party = some_same (Name n.0) party n.2 in
+        subst (λ (p : PartyWord). (word ≡ party_text p) × HasPartyRange p) same
+        (names.takes word n.0 n.1)
+
+    takes : (word : List ℕ) (party : PartyWord) → party_read word ≡ Some party
+        → (word ≡ party_text party) × HasPartyRange party
+    takes word party e = by_number word party (number_read 1 250 word) refl e
+
+    again : (party : PartyWord) → HasPartyRange party → party_read (party_text party) ≡ Some party
+    again (Address address) fits = rw (number_again 1 250 address (lit< tt) fits.0 fits.1) refl
+    again (Name level) fits = rw (name_no_number 1 250 level fits, names.again level fits) refl
 
 -- ---- words of two parts
 
-as_two_is : (texts : List (List ℕ)) (pair : List ℕ × List ℕ) → as_two texts ≡ Some pair
+pub as_two_is : (texts : List (List ℕ)) (pair : List ℕ × List ℕ) → as_two texts ≡ Some pair
     → texts ≡ pair.0 ∷ pair.1 ∷ []
 as_two_is [] pair e = absurd cc
 as_two_is (a ∷ []) pair e = absurd cc
@@ -168,35 +193,40 @@ module _ {A B C : Type 0} {s : A → List ℕ} {P : A → Type 0} {f : List ℕ 
   }
 
 -- a number has no mark that is no digit
-number_lacks : (mark n : ℕ) → mark < 48 → n < 2 ^ 64 → Lacks mark (decimal n)
+pub number_lacks : (mark n : ℕ) → mark < 48 → n < 2 ^ 64 → Lacks mark (decimal n)
 number_lacks mark n lt fits = lacks is_ascii_digit mark (λ c h. grind (arith, nat_tests))
     (decimal n) (decimal_digits n fits)
 
-number_lacks_above : (mark n : ℕ) → 57 < mark → n < 2 ^ 64 → Lacks mark (decimal n)
+pub number_lacks_above : (mark n : ℕ) → 57 < mark → n < 2 ^ 64 → Lacks mark (decimal n)
 number_lacks_above mark n lt fits =
     lacks is_ascii_digit mark (λ c h. grind (arith, nat_tests)) (decimal n) (decimal_digits n fits)
 
-party_lacks : (mark : ℕ) → mark < 48 → (party : PartyWord) → PartyFits party
+name_marks : (word : List ℕ) → IsLevelName word → list_all is_name_mark word ≡ true
+name_marks word fits =
+    (both (ltb 0 (length word) && leb (length word) 8 && is_upper (get_or word 0 0))
+    (list_all is_name_mark word) fits).1
+
+-- no party has a mark in front of the digits, or between them and the letters
+party_lacks : (mark : ℕ) → mark < 48 → (party : PartyWord) → HasPartyRange party
     → Lacks mark (party_text party)
-party_lacks mark lt (Address address) fits = number_lacks mark address lt (omega (arith, fits.0.1))
-party_lacks mark lt (Name level) fits = absurd fits.1
+party_lacks mark lt (Address address) fits = number_lacks mark address lt (omega (arith, fits.1))
+party_lacks mark lt (Name level) fits = lacks is_name_mark mark (λ c h. grind (arith, nat_tests))
+    level (name_marks level fits)
 
-party_lacks_above : (mark : ℕ) → 57 < mark → (party : PartyWord) → PartyFits party
+party_lacks_between : (mark : ℕ) → 57 < mark → mark < 65 → (party : PartyWord) → HasPartyRange party
     → Lacks mark (party_text party)
-party_lacks_above mark lt (Address address) fits =
-    number_lacks_above mark address lt (omega (arith, fits.0.1))
-party_lacks_above mark lt (Name level) fits = absurd fits.1
+party_lacks_between mark gt lt (Address address) fits =
+    number_lacks_above mark address gt (omega (arith, fits.1))
+party_lacks_between mark gt lt (Name level) fits =
+    lacks is_name_mark mark (λ c h. grind (arith, nat_tests)) level (name_marks level fits)
 
-abbrev pub StreamFits : StreamWord → Type 0
-StreamFits words = PartyFits words.from × PartyFits words.to
-
-pub streams : IsWord stream_text StreamFits stream_read
+pub streams : IsWord stream_text HasStreamRanges stream_read
 unfolding stream_read
 streams = parted_word 62 stream (λ words. words.from) (λ words. words.to) parties parties refl
-    (λ x y. refl) (λ x y. refl) (λ z. refl) (party_lacks_above 62 (lit< tt))
-    (party_lacks_above 62 (lit< tt))
+    (λ x y. refl) (λ x y. refl) (λ z. refl) (party_lacks_between 62 (lit< tt) (lit< tt))
+    (party_lacks_between 62 (lit< tt) (lit< tt))
 
-stream_lacks : (words : StreamWord) → StreamFits words → Lacks 35 (stream_text words)
+stream_lacks : (words : StreamWord) → HasStreamRanges words → Lacks 35 (stream_text words)
 stream_lacks words fits =
     All-append (λ c. eqb c 35 ≡ false) (party_text words.from) (62 ∷ party_text words.to)
     (party_lacks 35 (lit< tt) words.from fits.0)
@@ -207,7 +237,7 @@ abbrev wide : IsWord decimal (InRange 0 4294967295) (number_read 0 4294967295)
 wide = numbers 0 4294967295 (lit< tt)
 
 abbrev pub MessageFits : StreamWord × ℕ → Type 0
-MessageFits message = StreamFits message.0 × InRange 0 4294967295 message.1
+MessageFits message = HasStreamRanges message.0 × InRange 0 4294967295 message.1
 
 pub message_words : IsWord message_text MessageFits message_read
 unfolding message_read
@@ -235,7 +265,7 @@ numbers_lack two fits =
     (number_lacks 35 two.1 (lit< tt) (omega (arith, fits.1.1))))
 
 abbrev pub PieceFits : StreamWord × (ℕ × ℕ) → Type 0
-PieceFits piece = StreamFits piece.0 × NumbersFit piece.1
+PieceFits piece = HasStreamRanges piece.0 × NumbersFit piece.1
 
 pub piece_words : IsWord piece_text PieceFits piece_read
 unfolding piece_read

@@ -1,9 +1,9 @@
 -- Small facts on options, tests and lists of marks.
-use Rattle.std.proofs.Common.{◌≡◌, ℕ, ◌≤◌, Bool, true, false, cond, eqb, ltb, ◌&&◌, List, [], ◌∷◌, Option, Some, None, refl, arith}
+use Rattle.std.proofs.Common.{◌≡◌, ℕ, ◌≤◌, Bool, true, false, cond, eqb, ltb, ◌&&◌, List, [], ◌∷◌, ◌++◌, Option, Some, None, refl, arith}
 use Rattle.std.specs.List.{All, AllByRecursion, list_all}
 use Rattle.std.proofs.lemmas.Bool.Decides.{nat_tests}
 use Rattle.std.proofs.lemmas.List.Elements.{All-from_recursion}
-use Rattle.script.specs.Facts.{◌>>=◌}
+use Rattle.script.specs.Naming.{◌>>=◌}
 
 pub bind_some : {A B : Type 0} (o : Option A) (f : A → Option B) (y : B) → (o >>= f) ≡ Some y
     → (x : A) × (o ≡ Some x) × (f x ≡ Some y)
@@ -60,3 +60,20 @@ lacks p mark h word e = All-from_recursion (λ c. eqb c mark ≡ false) word (la
 
 pub ink_lacks : (mark : ℕ) → mark ≤ 32 → (word : List ℕ) → IsInk word → Lacks mark word
 ink_lacks mark le word ink = lacks is_ink mark (λ c h. grind (arith, nat_tests)) word ink
+
+-- ---- facts of all elements
+
+pub all_left : {X : Type 0} (P : X → Type 0) (xs ys : List X) → AllByRecursion P (xs ++ ys)
+    → AllByRecursion P xs
+all_left P [] ys all = tt
+all_left P (x ∷ xs) ys all = (all.0, all_left P xs ys all.1)
+
+pub all_right : {X : Type 0} (P : X → Type 0) (xs ys : List X) → AllByRecursion P (xs ++ ys)
+    → AllByRecursion P ys
+all_right P [] ys all = all
+all_right P (x ∷ xs) ys all = all_right P xs ys all.1
+
+pub all_append : {X : Type 0} (P : X → Type 0) (xs ys : List X) → AllByRecursion P xs
+    → AllByRecursion P ys → AllByRecursion P (xs ++ ys)
+all_append P [] ys a b = b
+all_append P (x ∷ xs) ys a b = (a.0, all_append P xs ys a.1 b)

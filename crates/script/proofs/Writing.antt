@@ -8,7 +8,7 @@ use Rattle.script.specs.Lines.{Line}
 use Rattle.script.specs.Lines as line
 use Rattle.script.specs.Text.{lines_of_sealing, line_of_level, line_of_key, lines_of_keys, line_of_host, line_of_row, line_of_event, text_of}
 use Rattle.events.specs.ScriptView.{ScriptView}
-use Rattle.script.proofs.Pushes.{no_pairs}
+use Rattle.script.proofs.Order.{no_pairs}
 use Rattle.seal_core.specs.declared.KeyPair.{KeyPair}
 use Rattle.levels.specs.declared.level.Sealing.TheVariants.{Clear, Des}
 use Rattle.levels.specs.Keys.{keys_at, listed}

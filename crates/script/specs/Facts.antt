@@ -1,26 +1,19 @@
 -- What the lines so far say.
-use Rattle.std.specs.Prelude.{List, [], ◌∷◌, Bool, true, false, Option, Some, None, unwrap_or, filter_map}
+use Rattle.std.specs.Prelude.{List, [], ◌∷◌, Bool, true, false, Option, Some, None, unwrap_or, filter_map, if◌then◌else◌}
 use Rattle.std.specs.List.{list_any}
-use Rattle.levels.specs.declared.level.Party.{Party}
-use Rattle.levels.specs.declared.level.Party.TheVariants.{Host, Manager}
-use Rattle.levels.specs.declared.level.Sealing.TheVariants.{Clear}
+use Rattle.seal_core.specs.declared.KeyPair.{KeyPair}
+use Rattle.levels.specs.declared.level.Sealing.{Sealing}
+use Rattle.levels.specs.declared.level.Sealing.TheVariants.{Clear, Des}
 use Rattle.levels.specs.declared.rows.LevelRow.{LevelRow}
 use Rattle.levels.specs.declared.rows.HostRow.{HostRow}
 use Rattle.levels.specs.Rosters.{RosterView, level_named}
+use Rattle.untrusted_store.specs.declared.plan.PlanRow.{PlanRow}
 use Rattle.events.specs.declared.event.Event.{Event}
-use Rattle.events.specs.declared.event.Event.TheVariants.{Send, Arrive, Carry}
-use Rattle.events.specs.declared.event.Stream.{Stream}
 use Rattle.events.specs.ScriptView.{ScriptView}
-use Rattle.script.specs.declared.line.PartyWord.{PartyWord}
-use Rattle.script.specs.declared.line.PartyWord.TheVariants.{Address, Name}
-use Rattle.script.specs.declared.line.StreamWord.{StreamWord}
-use Rattle.script.specs.Lines.{EventWords, Line}
+use Rattle.script.specs.Lines.{Line}
 use Rattle.script.specs.Lines as line
-
-infixl 10 ◌>>=◌
-abbrev pub ◌>>=◌ : {A B : Type 0} → Option A → (A → Option B) → Option B
-Some x >>= f = f x
-None >>= f = None
+use Rattle.script.specs.Naming.{◌>>=◌}
+use Rattle.script.specs.Naming.{either, event_named, row_named}
 
 -- the kinds of lines; all event lines are of one kind
 pub data Kind : Type 0 where
@@ -51,40 +44,13 @@ abbrev pub last_kind : List Line → Option Kind
 last_kind [] = None
 last_kind (first ∷ lines) = Some (unwrap_or (last_kind lines) (kind_of first))
 
+abbrev pub is_seal : Line → Bool
+is_seal line.Seal = true
+is_seal _ = false
+
 abbrev pub is_end : Line → Bool
 is_end line.End = true
 is_end _ = false
-
--- ---- names and what they stand for
-
--- a party by its word
-abbrev pub party_named : RosterView → PartyWord → Option Party
-party_named roster (Address address) = Some (Host address)
-party_named roster (Name level) = do
-  partition ← level_named roster level
-  Some (Manager partition)
-
-abbrev pub stream_named : RosterView → StreamWord → Option Stream
-stream_named roster words = do
-  from ← party_named roster words.from
-  to ← party_named roster words.to
-  Some (record { from = from; to = to })
-
--- an event by the words of its line, where the roster has the levels that it names; the forms that
--- are not read yet stand for none
-abbrev pub event_named : RosterView → EventWords → Option Event
-event_named roster (line.Send from to message) = do
-  party ← party_named roster to
-  Some (Send from party message)
-event_named roster (line.Deliver stream message piece at) = do
-  parties ← stream_named roster stream
-  party ← party_named roster at
-  Some (Arrive parties message piece party)
-event_named roster (line.Carry stream message at) = do
-  parties ← stream_named roster stream
-  party ← party_named roster at
-  Some (Carry parties message party)
-event_named roster _ = None
 
 -- ---- what each line adds
 
@@ -92,11 +58,25 @@ abbrev pub as_level : Line → Option LevelRow
 as_level (line.Level name level) = Some (record { name = name; level = level })
 as_level _ = None
 
+-- the key pair of a level
+abbrev pub as_pair : Line → Option KeyPair
+as_pair (line.Key level pair) = Some pair
+as_pair _ = None
+
+-- the guarantor's key pair
+abbrev pub as_guard : Line → Option KeyPair
+as_guard (line.Guard pair) = Some pair
+as_guard _ = None
+
 abbrev pub as_host : RosterView → Line → Option HostRow
 as_host roster (line.Host address level) = do
   partition ← level_named roster level
   Some (record { address = address; partition = partition })
 as_host roster _ = None
+
+abbrev pub as_row : RosterView → Line → Option PlanRow
+as_row roster (line.Store reader action) = row_named roster reader action
+as_row roster _ = None
 
 abbrev pub as_event : RosterView → Line → Option Event
 as_event roster (line.Event words) = event_named roster words
@@ -104,26 +84,50 @@ as_event roster _ = None
 
 -- ---- all lines together
 
-abbrev pub roster_with : List LevelRow → List HostRow → RosterView
-roster_with levels hosts =
-    record { sealing = Clear; levels = levels; keys = []; guard = None; hosts = hosts }
+-- under DES where a line says so
+abbrev pub sealing_said : List Line → Sealing
+sealing_said lines = if list_any is_seal lines then Des else Clear
 
 abbrev pub levels_of : List Line → List LevelRow
 levels_of lines = filter_map as_level lines
 
-abbrev pub hosts_of : List Line → List HostRow
-hosts_of lines = filter_map (as_host (roster_with (levels_of lines) [])) lines
+-- a roster of some levels alone: what their names stand for
+abbrev pub names_of : List LevelRow → RosterView
+names_of levels =
+    record { sealing = Clear; levels = levels; keys = []; guard = None; hosts = [] }
 
--- the levels in order, and the hosts with the numbers of their levels
+-- the key pairs of the levels, in their order
+abbrev pub pairs_said : List Line → List KeyPair
+pairs_said lines = filter_map as_pair lines
+
+-- the guarantor's key pair: that of the last line which says one
+abbrev pub guard_said : List Line → Option KeyPair
+guard_said [] = None
+guard_said (first ∷ lines) = either (guard_said lines) (as_guard first)
+
+abbrev pub hosts_of : List Line → List HostRow
+hosts_of lines = filter_map (as_host (names_of (levels_of lines))) lines
+
+-- the roster with the numbers of the levels in place of their names
 abbrev pub roster_of : List Line → RosterView
-roster_of lines = roster_with (levels_of lines) (hosts_of lines)
+roster_of lines = record {
+  sealing = sealing_said lines;
+  levels = levels_of lines;
+  keys = pairs_said lines;
+  guard = guard_said lines;
+  hosts = hosts_of lines;
+}
+
+abbrev pub rows_of : List Line → List PlanRow
+rows_of lines = filter_map (as_row (names_of (levels_of lines))) lines
 
 abbrev pub events_of : List Line → List Event
-events_of lines = filter_map (as_event (roster_of lines)) lines
+events_of lines = filter_map (as_event (names_of (levels_of lines))) lines
 
 pub record Facts : Type 0 where
   pub last : Option Kind
   pub roster : RosterView
+  pub rows : List PlanRow
   pub events : List Event
   pub ended : Bool
 
@@ -131,10 +135,12 @@ abbrev pub facts : List Line → Facts
 facts lines = record {
   last = last_kind lines;
   roster = roster_of lines;
+  rows = rows_of lines;
   events = events_of lines;
   ended = list_any is_end lines;
 }
 
--- the script that lines say; no line that is read adds a row to the plan
+-- the script that lines say
 abbrev pub script_said : List Line → ScriptView
-script_said lines = record { roster = roster_of lines; rows = []; events = events_of lines }
+script_said lines =
+    record { roster = roster_of lines; rows = rows_of lines; events = events_of lines }

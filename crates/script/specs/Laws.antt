@@ -1,15 +1,17 @@
 -- What holds of texts and scripts.
-use Rattle.std.specs.Prelude.{◌≡◌, ◌⊎◌, ℕ, ◌-◌, ◌≤◌, ◌==◌, List, length, slice_get, Some}
-use Rattle.std.specs.List.{slice_split}
+use Rattle.std.specs.Prelude.{◌≡◌, ◌⊎◌, ℕ, ◌-◌, ◌<◌, ◌≤◌, ◌==◌, List, length, slice_get, Some}
+use Rattle.std.specs.List.{AllByRecursion, slice_split}
+use Rattle.untrusted_store.specs.declared.plan.StoreAction.{StoreAction}
+use Rattle.untrusted_store.specs.declared.plan.StoreAction.TheVariants.{Honest, Of, Flip, Gone}
 use Rattle.events.specs.declared.event.Event.{Event}
 use Rattle.events.specs.ScriptView.{ScriptView}
 use Rattle.events.specs.Scripts.{IsScript, line_of}
 use Rattle.script.specs.declared.read.TheConstants.{TEXT_LIMIT}
 use Rattle.script.specs.declared.refusal.Refusal.{Refusal}
 use Rattle.script.specs.Spelling.{line_text}
+use Rattle.script.specs.Ranges.{InRange}
 use Rattle.script.specs.Reasons.{FirstRefusal, IsScriptOf, IsClean}
 use Rattle.script.specs.Text.{line_of_event, text_of}
-use Rattle.script.specs.Today.{IsSaidToday}
 
 -- a text is clean or has a first refusal, never both, and never two; and it says one script
 pub record HasOneOutcome (bytes : List ℕ) : Type 0 where
@@ -26,10 +28,23 @@ abbrev pub CleanTextsAreTheirOwn : Type 0
 CleanTextsAreTheirOwn =
     (bytes : List ℕ) (script : ScriptView) → IsScriptOf bytes script → text_of script ≡ bytes
 
--- The text of a script that can be held, and said today, says that script where it is not too long.
+-- a line can say the action: a version is counted from 1 and has seven bytes at most, and a byte is
+-- changed
+abbrev pub IsSaid : StoreAction → Type 0
+IsSaid (Of level version) = InRange 1 72057594037927935 version
+IsSaid (Flip offset xor) = 0 < xor
+IsSaid Honest = Unit {0}
+IsSaid Gone = Unit {0}
+
+-- lines can say all of a script
+abbrev pub IsSpelled : ScriptView → Type 0
+IsSpelled script = AllByRecursion (λ row. IsSaid row.action) script.rows
+
+-- The text of a script that can be held, and whose plan lines can say, says that script where it is
+-- not too long.
 abbrev pub ScriptsReadAgain : Type 0
 ScriptsReadAgain =
-    (script : ScriptView) → IsScript script → IsSaidToday script
+    (script : ScriptView) → IsScript script → IsSpelled script
     → length (text_of script) ≤ TEXT_LIMIT → IsScriptOf (text_of script) script
 
 -- the texts between newlines

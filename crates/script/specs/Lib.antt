@@ -2,7 +2,7 @@ pub mod Lines
 pub mod Spelling
 pub mod Ranges
 pub mod Text
-pub mod Today
+pub mod Naming
 pub mod Facts
 pub mod Reasons
 pub mod Answers

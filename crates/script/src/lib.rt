@@ -1,13 +1,18 @@
 //! Script text: reading it, with the first line that is refused, and writing it.
 #![tactic(auto)]
 
+mod bytes;
 mod categories;
 mod cut;
+mod edits;
 mod laws;
 mod line;
 mod message;
 mod number;
+mod parties;
 mod read;
+mod read_call;
+mod read_event;
 mod reading;
 mod refusal;
 mod stage;
@@ -16,7 +21,7 @@ mod write;
 mod write_event;
 mod write_word;
 
-pub use events::{Body, Edits, Event, Script, ScriptStop, Stream};
+pub use events::{AskedCall, Body, Edits, Event, ForgedFrame, Script, ScriptStop, Stream};
 pub use laws::{
     clean_texts_are_their_own, each_text_has_one_outcome, events_stand_at_their_lines,
     scripts_read_again,

@@ -7,7 +7,7 @@ use events::Body;
 use hex::FromHexError;
 use std::alloc::Global;
 
-fn are_lower_digits(word: &[u8]) -> bool
+pub fn are_lower_digits(word: &[u8]) -> bool
     ensures { result ≡ list_all is_lower_digit word.now }
 {
     for digit in word {

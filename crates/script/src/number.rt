@@ -41,7 +41,8 @@ pub fn number(word: &[u8], low: u64, high: u64) -> Option<u64>
 
 /// A number of one byte.
 pub fn small_number(word: &[u8], low: u8, high: u8) -> Option<u8>
-    ensures { result ≡ number_read low high word.now }
+    ensures value { result ≡ number_read low high word.now }
+    ensures most { IfSome result (λ n. n ≤ high) }
 {
     let n = number(word, u64::from(low), u64::from(high))?;
     Some(n as u8)

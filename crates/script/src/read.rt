@@ -1,9 +1,8 @@
 ghost use Rattle.std.specs.Prelude.{◌≡◌, IfOk};
-ghost use Rattle.std.specs.List.{AllByRecursion};
 ghost use Rattle.script.specs.Answers.{AnswersText};
 ghost use Rattle.script.specs.inside.Stages.{at_line};
 ghost use Rattle.script.specs.Text.{text_of};
-ghost use Rattle.script.specs.Today.{IsSaidToday, IsBetweenHosts};
+ghost use Rattle.script.specs.Laws.{IsSpelled};
 
 use crate::cut::cut;
 use crate::refusal::{Reason, Refusal, ScriptRefused, Stop};
@@ -27,8 +26,7 @@ fn at_line(line: u32, stop: Stop) -> ScriptRefused
 pub fn read_script(alloc: Global, bytes: &[u8]) -> Result<Script, ScriptRefused>
     ensures exact { AnswersText bytes.now result }
     ensures text { IfOk result (λ script. bytes.now ≡ text_of script) }
-    ensures today { IfOk result (λ script. IsSaidToday script) }
-    ensures hosts { IfOk result (λ script. AllByRecursion IsBetweenHosts script.events) }
+    ensures spelled { IfOk result IsSpelled }
 {
     if bytes.len() > TEXT_LIMIT {
         return Err(at_line(0, Stop::Refused(Reason::Many)));

@@ -1,87 +1,32 @@
-ghost use Rattle.std.specs.Prelude.{◌≡◌, ◌==◌, ◌∷◌, IfOk, IfSome};
-ghost use Rattle.std.specs.Option.{option_map};
-ghost use Rattle.script.specs.inside.Readers.{meant, Reads, Gives, name_read, party_read};
-ghost use Rattle.script.specs.inside.Readers.{stream_read, message_read, numbers_read, piece_read};
-ghost use Rattle.script.specs.inside.Readers.{nothing, version_form, level_form, host_form};
-ghost use Rattle.script.specs.inside.Readers.{send_form, deliver_form, carry_form, form_read};
-ghost use Rattle.script.specs.inside.Readers.{line_read, words_behind};
+ghost use Rattle.std.specs.Prelude.{◌≡◌, ◌∷◌};
+ghost use Rattle.script.specs.inside.Readers.{meant, action_meant, Reads, Gives, words_behind};
+ghost use Rattle.script.specs.inside.Readers.{words, nothing, version_form, seal_form};
+ghost use Rattle.script.specs.inside.Readers.{level_form, key_form, guard_form, host_form};
+ghost use Rattle.script.specs.inside.Readers.{of_form, flip_form, action_read, store_form};
+ghost use Rattle.script.specs.inside.Readers.{form_read, line_read};
+ghost use Rattle.script.specs.Lines as line;
 
+use crate::bytes::{change_word, key_word};
 use crate::categories::categories;
 use crate::cut::cut;
-use crate::line::{EventWords, Line, PartyWord, StreamWord};
-use crate::message::message_bytes;
-use crate::number::{small_number, wide_number};
-use crate::refusal::{Reason, Stop};
-use crate::words::{one_word, three_words, two_parts, two_words};
-use levels::{Level, LevelName};
+use crate::line::{Line, StoreWords, formed};
+use crate::number::{number, small_number, wide_number};
+use crate::parties::{host_address, level_name};
+use crate::read_event::event_line;
+use crate::refusal::Stop;
+use crate::words::{first_word, one_word, three_words, two_words};
+use levels::Level;
+use seal_core::KeyPair;
 use std::alloc::Global;
-
-/// The greatest address of a host.
-const ADDRESS_LIMIT: u8 = 250;
 
 /// The greatest rank of a level.
 const RANK_LIMIT: u8 = 7;
 
-/// The greatest number of a piece.
-const PIECE_LIMIT: u8 = 63;
+/// The greatest version of a record.
+const VERSION_LIMIT: u64 = 72_057_594_037_927_935;
 
-#[tactic(auto, unfolding(crate::specs::inside::Readers::name_read))]
-fn level_name(word: &[u8]) -> Option<LevelName>
-    ensures { result ≡ name_read word.now }
-{
-    LevelName::new(word)
-}
-
-#[tactic(auto, unfolding(crate::specs::inside::Readers::party_read))]
-fn party_word(word: &[u8]) -> Option<PartyWord>
-    ensures { result ≡ party_read word.now }
-{
-    let address = small_number(word, 1, ADDRESS_LIMIT)?;
-    Some(PartyWord::Address(address))
-}
-
-#[tactic(auto, unfolding(crate::specs::inside::Readers::stream_read))]
-fn stream_word(word: &[u8]) -> Option<StreamWord>
-    ensures { result ≡ stream_read word.now }
-{
-    let (from, to) = two_parts(word, b'>')?;
-    let from = party_word(from)?;
-    let to = party_word(to)?;
-    Some(StreamWord { from, to })
-}
-
-/// A message: its stream and its number.
-#[tactic(auto, unfolding(crate::specs::inside::Readers::message_read))]
-fn message_word(word: &[u8]) -> Option<(StreamWord, u32)>
-    ensures { result ≡ message_read word.now }
-{
-    let (stream, number) = two_parts(word, b'#')?;
-    let stream = stream_word(stream)?;
-    let number = wide_number(number, 0, u32::MAX)?;
-    Some((stream, number))
-}
-
-/// The number of a message, and that of one of its pieces.
-#[tactic(auto, unfolding(crate::specs::inside::Readers::numbers_read))]
-fn numbers_word(word: &[u8]) -> Option<(u32, u8)>
-    ensures { result ≡ numbers_read word.now }
-{
-    let (message, piece) = two_parts(word, b'.')?;
-    let message = wide_number(message, 0, u32::MAX)?;
-    let piece = small_number(piece, 0, PIECE_LIMIT)?;
-    Some((message, piece))
-}
-
-/// A piece: its stream and its numbers.
-#[tactic(auto, unfolding(crate::specs::inside::Readers::piece_read))]
-fn piece_word(word: &[u8]) -> Option<(StreamWord, (u32, u8))>
-    ensures { result ≡ piece_read word.now }
-{
-    let (stream, numbers) = two_parts(word, b'#')?;
-    let stream = stream_word(stream)?;
-    let numbers = numbers_word(numbers)?;
-    Some((stream, numbers))
-}
+/// The mark between two words of a line.
+const SPACE: u8 = b' ';
 
 /// A line of one word.
 fn lone_line(behind: Option<&[u8]>, line: Line) -> Option<Line>
@@ -105,6 +50,17 @@ fn version_line(behind: Option<&[u8]>) -> Option<Line>
     }
 }
 
+#[tactic(auto, unfolding(crate::specs::inside::Readers::seal_form))]
+fn seal_line(behind: Option<&[u8]>) -> Option<Line>
+    ensures { Reads meant result (seal_form (words_behind behind.entry)) }
+{
+    let word = one_word(behind)?;
+    if word != b"des".as_slice() {
+        return None;
+    }
+    Some(Line::Seal)
+}
+
 #[tactic(auto, unfolding(crate::specs::inside::Readers::level_form))]
 fn level_line(behind: Option<&[u8]>) -> Option<Line>
     ensures { Reads meant result (level_form (words_behind behind.entry)) }
@@ -117,67 +73,94 @@ fn level_line(behind: Option<&[u8]>) -> Option<Line>
     Some(Line::Level { name, level })
 }
 
+#[tactic(auto, unfolding(crate::specs::inside::Readers::key_form))]
+fn key_line(behind: Option<&[u8]>) -> Option<Line>
+    ensures { Reads meant result (key_form (words_behind behind.entry)) }
+{
+    let (level, main, check) = three_words(behind)?;
+    let level = level_name(level)?;
+    let main = key_word(main)?;
+    let check = key_word(check)?;
+    let pair = KeyPair { main, check };
+    Some(Line::Keys { level, pair })
+}
+
+#[tactic(auto, unfolding(crate::specs::inside::Readers::guard_form))]
+fn guard_line(behind: Option<&[u8]>) -> Option<Line>
+    ensures { Reads meant result (guard_form (words_behind behind.entry)) }
+{
+    let (main, check) = two_words(behind)?;
+    let main = key_word(main)?;
+    let check = key_word(check)?;
+    Some(Line::Guard(KeyPair { main, check }))
+}
+
 #[tactic(auto, unfolding(crate::specs::inside::Readers::host_form))]
 fn host_line(behind: Option<&[u8]>) -> Option<Line>
     ensures { Reads meant result (host_form (words_behind behind.entry)) }
 {
     let (address, level) = two_words(behind)?;
-    let address = small_number(address, 1, ADDRESS_LIMIT)?;
+    let address = host_address(address)?;
     let level = level_name(level)?;
     Some(Line::Host { address, level })
 }
 
-#[tactic(auto, unfolding(crate::specs::inside::Readers::deliver_form))]
-fn deliver_line(behind: Option<&[u8]>) -> Option<Line>
-    ensures { Reads meant result (deliver_form (words_behind behind.entry)) }
+/// An action of one word.
+fn lone_action(behind: Option<&[u8]>, action: StoreWords) -> Option<StoreWords>
+    ensures { Reads action_meant result
+        (nothing (action_meant action) (words_behind behind.entry)) }
 {
-    let (piece, to, at) = three_words(behind)?;
-    let (stream, (message, piece)) = piece_word(piece)?;
-    if to != b"to".as_slice() {
-        return None;
+    match behind {
+        None => Some(action),
+        Some(_) => None,
     }
-    let at = party_word(at)?;
-    Some(Line::Event(EventWords::Deliver {
-        stream,
-        message,
-        piece,
-        at,
-    }))
 }
 
-#[tactic(auto, unfolding(crate::specs::inside::Readers::carry_form))]
-fn carry_line(behind: Option<&[u8]>) -> Option<Line>
-    ensures { Reads meant result (carry_form (words_behind behind.entry)) }
+fn of_words(behind: Option<&[u8]>) -> Option<StoreWords>
+    ensures { Reads action_meant result (of_form (words_behind behind.entry)) }
 {
-    let (message, to, at) = three_words(behind)?;
-    let (stream, message) = message_word(message)?;
-    if to != b"to".as_slice() {
-        return None;
+    let (level, version) = two_words(behind)?;
+    let level = level_name(level)?;
+    let version = number(version, 1, VERSION_LIMIT)?;
+    Some(StoreWords::Of { level, version })
+}
+
+fn flip_words(behind: Option<&[u8]>) -> Option<StoreWords>
+    ensures { Reads action_meant result (flip_form (words_behind behind.entry)) }
+{
+    let (offset, xor) = two_words(behind)?;
+    let offset = wide_number(offset, 0, u32::MAX)?;
+    let xor = change_word(xor)?;
+    Some(StoreWords::Flip { offset, xor })
+}
+
+/// What the store does.
+#[tactic(auto, unfolding(crate::specs::inside::Readers::action_read))]
+fn action_words(text: &[u8]) -> Option<StoreWords>
+    ensures { Reads action_meant result (action_read (words text.now)) }
+{
+    let (first, behind) = first_word(text);
+    if first == b"true".as_slice() {
+        lone_action(behind, StoreWords::Honest)
+    } else if first == b"of".as_slice() {
+        of_words(behind)
+    } else if first == b"flip".as_slice() {
+        flip_words(behind)
+    } else if first == b"gone".as_slice() {
+        lone_action(behind, StoreWords::Gone)
+    } else {
+        None
     }
-    let at = party_word(at)?;
-    Some(Line::Event(EventWords::Carry {
-        stream,
-        message,
-        at,
-    }))
 }
 
-#[tactic(auto, unfolding(crate::specs::inside::Readers::send_form))]
-fn send_line(alloc: Global, behind: Option<&[u8]>) -> Result<Line, Stop>
-    ensures { Gives meant result (send_form (words_behind behind.entry)) }
+#[tactic(auto, unfolding(crate::specs::inside::Readers::store_form))]
+fn store_line(behind: Option<&[u8]>) -> Option<Line>
+    ensures { Reads meant result (store_form (words_behind behind.entry)) }
 {
-    let (from, to, message) = three_words(behind).ok_or(Stop::Refused(Reason::Form))?;
-    let from = small_number(from, 1, ADDRESS_LIMIT).ok_or(Stop::Refused(Reason::Form))?;
-    let to = party_word(to).ok_or(Stop::Refused(Reason::Form))?;
-    let message = message_bytes(alloc, message)?;
-    Ok(Line::Event(EventWords::Send { from, to, message }))
-}
-
-/// What was read, or the reason `form` where nothing was.
-fn formed(line: Option<Line>) -> Result<Line, Stop>
-    ensures { Gives meant result (option_map meant line) }
-{
-    line.ok_or(Stop::Refused(Reason::Form))
+    let (reader, action) = cut(behind?, SPACE)?;
+    let reader = level_name(reader)?;
+    let words = action_words(action)?;
+    Some(Line::Store { reader, words })
 }
 
 /// The line of a first word and of what stands behind it.
@@ -187,22 +170,24 @@ fn form_line(alloc: Global, first: &[u8], behind: Option<&[u8]>) -> Result<Line,
 {
     if first == b"dss".as_slice() {
         formed(version_line(behind))
+    } else if first == b"seal".as_slice() {
+        formed(seal_line(behind))
     } else if first == b"level".as_slice() {
         formed(level_line(behind))
+    } else if first == b"key".as_slice() {
+        formed(key_line(behind))
+    } else if first == b"guard".as_slice() {
+        formed(guard_line(behind))
     } else if first == b"host".as_slice() {
         formed(host_line(behind))
+    } else if first == b"store".as_slice() {
+        formed(store_line(behind))
     } else if first == b"begin".as_slice() {
         formed(lone_line(behind, Line::Begin))
-    } else if first == b"send".as_slice() {
-        send_line(alloc, behind)
-    } else if first == b"deliver".as_slice() {
-        formed(deliver_line(behind))
-    } else if first == b"carry".as_slice() {
-        formed(carry_line(behind))
     } else if first == b"end".as_slice() {
         formed(lone_line(behind, Line::End))
     } else {
-        Err(Stop::Refused(Reason::Form))
+        event_line(alloc, first, behind)
     }
 }
 
@@ -210,8 +195,6 @@ fn form_line(alloc: Global, first: &[u8], behind: Option<&[u8]>) -> Result<Line,
 pub fn read_line(alloc: Global, text: &[u8]) -> Result<Line, Stop>
     ensures { Gives meant result (line_read text.now) }
 {
-    match cut(text, b' ') {
-        Some((first, behind)) => form_line(alloc, first, Some(behind)),
-        None => form_line(alloc, text, None),
-    }
+    let (first, behind) = first_word(text);
+    form_line(alloc, first, behind)
 }

@@ -1,19 +1,18 @@
-ghost use Rattle.std.specs.Prelude.{◌≡◌, ◌≤◌, ◌<◌, [], true, false, length};
-ghost use Rattle.levels.specs.Rosters.{with_level};
-ghost use Rattle.levels.specs.declared.level.Sealing.TheVariants.{Clear};
-ghost use Rattle.script.specs.Facts.{Kind, level_line, host_line, event_line};
-ghost use Rattle.script.specs.Reasons.{may_follow};
+ghost use Rattle.std.specs.Prelude.{◌≡◌, ◌≤◌, ◌<◌, [], length};
+ghost use Rattle.levels.specs.declared.level.Sealing.TheVariants.{Des};
+ghost use Rattle.levels.specs.Kept.{IsComplete};
 ghost use Rattle.script.specs.Lines as line;
 ghost use Rattle.script.specs.Ranges.{IsAddress, HasEventRanges, HasRanges};
-ghost use Rattle.script.specs.inside.Readers.{words_meant, meant};
-ghost use Rattle.script.specs.inside.Stages.{seen, IsSound, Takes, TakesBehind, Steps};
-ghost use Rattle.script.specs.inside.Stages.{facts_with, Finishes};
+ghost use Rattle.script.specs.inside.Readers.{words_meant, action_meant, meant};
+ghost use Rattle.script.specs.inside.Stages.{seen, IsSound, IsKeyed, Takes, TakesBehind, Steps};
+ghost use Rattle.script.specs.inside.Stages.{Finishes};
 
-use crate::line::{EventWords, Line};
+use crate::line::{EventWords, Line, StoreWords, plan_row};
 use crate::reading::read_line;
 use crate::refusal::{Reason, Stop};
 use events::Script;
 use levels::{Level, LevelName, Roster, Sealing};
+use seal_core::KeyPair;
 use std::alloc::Global;
 
 /// How far the reading of a text has come, by the kind of its last line.
@@ -21,8 +20,12 @@ use std::alloc::Global;
 pub enum Stage {
     Nothing,
     Version,
+    Sealed,
     Levels(Roster),
+    Keys(Roster),
+    Guarded(Roster),
     Hosts(Roster),
+    Planned(Script),
     Begun(Script),
     Events(Script),
     Ended(Script),
@@ -31,21 +34,49 @@ pub enum Stage {
 /// The stage behind a further level line.
 #[tactic(auto, unfolding(crate::specs::Reasons::against))]
 fn add_level(mut roster: Roster, name: LevelName, level: Level) -> Result<Stage, Stop>
-    requires clear { roster.sealing ≡ Clear }
+    requires keys { roster.keys ≡ [] }
+    requires guard { roster.guard ≡ None }
     requires rank { level.rank ≤ 7 }
-    ensures { TakesBehind roster [] (line.Level name level) result }
+    ensures { TakesBehind roster [] [] (line.Level name level) result }
 {
     roster.add_level(name, level)?;
     Ok(Stage::Levels(roster))
 }
 
+/// The stage behind the line of a further level's keys.
+#[tactic(auto, unfolding(crate::specs::Reasons::against))]
+fn add_keys(mut roster: Roster, level: LevelName, pair: KeyPair) -> Result<Stage, Stop>
+    requires keyed { IsKeyed roster }
+    requires left { length roster.keys < length roster.levels }
+    ensures { TakesBehind roster [] [] (line.Key level pair) result }
+{
+    let Some(partition) = roster.find_level(&level) else {
+        return Err(Stop::Refused(Reason::Name));
+    };
+    if partition.0 != roster.key_count() {
+        return Err(Stop::Refused(Reason::Name));
+    }
+    roster.add_keys(pair)?;
+    Ok(Stage::Keys(roster))
+}
+
+/// The stage behind the line of the guarantor's keys.
+#[tactic(auto, unfolding(crate::specs::Reasons::against))]
+fn set_guard(mut roster: Roster, pair: KeyPair) -> Result<Stage, Stop>
+    requires keyed { IsKeyed roster }
+    requires all { length roster.keys ≡ length roster.levels }
+    ensures { TakesBehind roster [] [] (line.Guard pair) result }
+{
+    roster.set_guard(pair)?;
+    Ok(Stage::Guarded(roster))
+}
+
 /// The stage behind a further host line.
 #[tactic(auto, unfolding(crate::specs::Reasons::against))]
 fn add_host(mut roster: Roster, address: u8, level: LevelName) -> Result<Stage, Stop>
-    requires clear { roster.sealing ≡ Clear }
-    requires levels { 0 < length roster.levels }
+    requires complete { IsComplete roster }
     requires address { IsAddress address }
-    ensures { TakesBehind roster [] (line.Host address level) result }
+    ensures { TakesBehind roster [] [] (line.Host address level) result }
 {
     let Some(partition) = roster.find_level(&level) else {
         return Err(Stop::Refused(Reason::Name));
@@ -54,16 +85,40 @@ fn add_host(mut roster: Roster, address: u8, level: LevelName) -> Result<Stage, 
     Ok(Stage::Hosts(roster))
 }
 
-/// The stage behind a further event line.
+/// The stage behind a further row of the plan.
 #[tactic(auto, unfolding(crate::specs::Reasons::against))]
-fn add_event(mut script: Script, words: EventWords) -> Result<Stage, Stop>
-    requires rows { script.rows ≡ [] }
-    requires ranges { HasEventRanges (words_meant words) }
-    ensures { TakesBehind script.roster script.events (line.Event (words_meant words)) result }
+fn add_row(mut script: Script, reader: LevelName, words: StoreWords) -> Result<Stage, Stop>
+    ensures { TakesBehind script.roster script.rows script.events
+        (line.Store reader (action_meant words)) result }
 {
-    let Some(event) = words.event(script.roster()) else {
+    let Some(row) = plan_row(script.roster(), reader, words) else {
         return Err(Stop::Refused(Reason::Name));
     };
+    script.add_plan(row)?;
+    Ok(Stage::Planned(script))
+}
+
+/// The stage behind the first row of the plan.
+fn start_plan(
+    alloc: Global,
+    roster: Roster,
+    reader: LevelName,
+    words: StoreWords,
+) -> Result<Stage, Stop>
+    requires { IsComplete roster }
+    ensures { TakesBehind roster [] [] (line.Store reader (action_meant words)) result }
+{
+    add_row(Script::start(alloc, roster), reader, words)
+}
+
+/// The stage behind a further event line.
+#[tactic(auto, unfolding(crate::specs::Reasons::against))]
+fn add_event(alloc: Global, mut script: Script, words: EventWords) -> Result<Stage, Stop>
+    requires { HasEventRanges (words_meant words) }
+    ensures { TakesBehind script.roster script.rows script.events
+        (line.Event (words_meant words)) result }
+{
+    let event = words.event(alloc, script.roster())?;
     script.add_event(event)?;
     Ok(Stage::Events(script))
 }
@@ -80,6 +135,16 @@ impl Stage {
     }
 
     #[tactic(auto, unfolding(crate::specs::Reasons::against))]
+    fn take_seal(self) -> Result<Stage, Stop>
+        ensures { Takes (seen self) line.Seal result }
+    {
+        match self {
+            Stage::Version => Ok(Stage::Sealed),
+            _ => Err(Stop::Refused(Reason::Place)),
+        }
+    }
+
+    #[tactic(auto, unfolding(crate::specs::Reasons::against))]
     fn take_level(self, alloc: Global, name: LevelName, level: Level) -> Result<Stage, Stop>
         requires sound { IsSound self }
         requires rank { level.rank ≤ 7 }
@@ -87,7 +152,46 @@ impl Stage {
     {
         match self {
             Stage::Version => add_level(Roster::new(alloc, Sealing::Clear), name, level),
+            Stage::Sealed => add_level(Roster::new(alloc, Sealing::Des), name, level),
             Stage::Levels(roster) => add_level(roster, name, level),
+            _ => Err(Stop::Refused(Reason::Place)),
+        }
+    }
+
+    #[tactic(auto, unfolding(crate::specs::Reasons::against))]
+    fn take_keys(self, level: LevelName, pair: KeyPair) -> Result<Stage, Stop>
+        requires { IsSound self }
+        ensures { Takes (seen self) (line.Key level pair) result }
+    {
+        match self {
+            Stage::Levels(roster) => match roster.sealing() {
+                Sealing::Des => add_keys(roster, level, pair),
+                Sealing::Clear => Err(Stop::Refused(Reason::Place)),
+            },
+            Stage::Keys(roster) => {
+                if roster.key_count() < roster.level_count() {
+                    add_keys(roster, level, pair)
+                } else {
+                    Err(Stop::Refused(Reason::Place))
+                }
+            }
+            _ => Err(Stop::Refused(Reason::Place)),
+        }
+    }
+
+    #[tactic(auto, unfolding(crate::specs::Reasons::against))]
+    fn take_guard(self, pair: KeyPair) -> Result<Stage, Stop>
+        requires { IsSound self }
+        ensures { Takes (seen self) (line.Guard pair) result }
+    {
+        match self {
+            Stage::Keys(roster) => {
+                if roster.key_count() < roster.level_count() {
+                    Err(Stop::Refused(Reason::Place))
+                } else {
+                    set_guard(roster, pair)
+                }
+            }
             _ => Err(Stop::Refused(Reason::Place)),
         }
     }
@@ -99,8 +203,29 @@ impl Stage {
         ensures { Takes (seen self) (line.Host address level) result }
     {
         match self {
-            Stage::Levels(roster) => add_host(roster, address, level),
+            Stage::Levels(roster) => match roster.sealing() {
+                Sealing::Des => Err(Stop::Refused(Reason::Place)),
+                Sealing::Clear => add_host(roster, address, level),
+            },
+            Stage::Guarded(roster) => add_host(roster, address, level),
             Stage::Hosts(roster) => add_host(roster, address, level),
+            _ => Err(Stop::Refused(Reason::Place)),
+        }
+    }
+
+    #[tactic(auto, unfolding(crate::specs::Reasons::against))]
+    fn take_row(self, alloc: Global, reader: LevelName, words: StoreWords) -> Result<Stage, Stop>
+        requires { IsSound self }
+        ensures { Takes (seen self) (line.Store reader (action_meant words)) result }
+    {
+        match self {
+            Stage::Levels(roster) => match roster.sealing() {
+                Sealing::Des => Err(Stop::Refused(Reason::Place)),
+                Sealing::Clear => start_plan(alloc, roster, reader, words),
+            },
+            Stage::Guarded(roster) => start_plan(alloc, roster, reader, words),
+            Stage::Hosts(roster) => start_plan(alloc, roster, reader, words),
+            Stage::Planned(script) => add_row(script, reader, words),
             _ => Err(Stop::Refused(Reason::Place)),
         }
     }
@@ -111,28 +236,31 @@ impl Stage {
         ensures { Takes (seen self) line.Begin result }
     {
         match self {
-            Stage::Levels(roster) => Ok(Stage::Begun(Script::start(alloc, roster))),
+            Stage::Levels(roster) => match roster.sealing() {
+                Sealing::Des => Err(Stop::Refused(Reason::Place)),
+                Sealing::Clear => Ok(Stage::Begun(Script::start(alloc, roster))),
+            },
+            Stage::Guarded(roster) => Ok(Stage::Begun(Script::start(alloc, roster))),
             Stage::Hosts(roster) => Ok(Stage::Begun(Script::start(alloc, roster))),
+            Stage::Planned(script) => Ok(Stage::Begun(script)),
             _ => Err(Stop::Refused(Reason::Place)),
         }
     }
 
     #[tactic(auto, unfolding(crate::specs::Reasons::against))]
-    fn take_event(self, words: EventWords) -> Result<Stage, Stop>
-        requires sound { IsSound self }
-        requires ranges { HasEventRanges (words_meant words) }
+    fn take_event(self, alloc: Global, words: EventWords) -> Result<Stage, Stop>
+        requires { HasEventRanges (words_meant words) }
         ensures { Takes (seen self) (line.Event (words_meant words)) result }
     {
         match self {
-            Stage::Begun(script) => add_event(script, words),
-            Stage::Events(script) => add_event(script, words),
+            Stage::Begun(script) => add_event(alloc, script, words),
+            Stage::Events(script) => add_event(alloc, script, words),
             _ => Err(Stop::Refused(Reason::Place)),
         }
     }
 
     #[tactic(auto, unfolding(crate::specs::Reasons::against))]
     fn take_end(self) -> Result<Stage, Stop>
-        requires { IsSound self }
         ensures { Takes (seen self) line.End result }
     {
         match self {
@@ -149,10 +277,14 @@ impl Stage {
     {
         match line {
             Line::Version => self.take_version(),
+            Line::Seal => self.take_seal(),
             Line::Level { name, level } => self.take_level(alloc, name, level),
+            Line::Keys { level, pair } => self.take_keys(level, pair),
+            Line::Guard(pair) => self.take_guard(pair),
             Line::Host { address, level } => self.take_host(address, level),
+            Line::Store { reader, words } => self.take_row(alloc, reader, words),
             Line::Begin => self.take_begin(alloc),
-            Line::Event(words) => self.take_event(words),
+            Line::Event(words) => self.take_event(alloc, words),
             Line::End => self.take_end(),
         }
     }

@@ -1,10 +1,10 @@
-ghost use Rattle.std.specs.Prelude.{◌≤◌};
+ghost use Rattle.std.specs.Prelude.{◌<◌, ◌≤◌};
 ghost use Rattle.events.specs.Scripts.{HasBlockNumber};
 
 use crate::{
-    Body, Edits, Event, Reason, Refusal, Script, ScriptRefused, Stream, read_script, write_script,
+    AskedCall, Body, Edits, Event, ForgedFrame, Reason, Refusal, Script, ScriptRefused, Stream,
+    read_script, write_script,
 };
-use events::{AskedCall, ForgedFrame};
 use file_calls::{Call, Content, Name};
 use levels::{Level, LevelName, Partition, Party, Roster, Sealing};
 use seal_core::KeyPair;
@@ -12,6 +12,10 @@ use std::alloc::{AllocError, Global};
 use std::process::Abort;
 use std::test::Fail;
 use untrusted_store::{PlanRow, StoreAction};
+
+mod forms;
+mod keys;
+mod plan;
 
 const HEAD: &str =
     "dss 1\nlevel U 0 -\nlevel S 2 a\nhost 1 U\nhost 2 U\nhost 5 S\nhost 6 S\nbegin\n";
@@ -42,6 +46,33 @@ fn expect_refused(
 ) -> Result<(), AllocError> {
     let refusal = refusal_of(alloc, text)?;
     assert_eq!(rt; refusal, Some(Refusal { line, reason }), "at line {line}");
+    Ok(())
+}
+
+/// A text with each of some lines behind it: it is refused there or, where the reason is `end`, one
+/// line further, since the line was taken.
+fn expect_each(
+    rt: &impl Abort,
+    alloc: Global,
+    head: &[u8],
+    number: u32,
+    lines: &str,
+    reason: Reason,
+) -> Result<(), Fail>
+    requires { number < 1000000 }
+{
+    let line = if reason == Reason::End {
+        number + 1
+    } else {
+        number
+    };
+    for last in lines.lines() {
+        let mut text = Vec::from_slice(alloc, head)?;
+        text.extend_from_slice(last.as_bytes())?;
+        text.push(b'\n')?;
+        let refusal = refusal_of(alloc, &text)?;
+        assert_eq!(rt; refusal, Some(Refusal { line, reason }), "{last}");
+    }
     Ok(())
 }
 
@@ -82,77 +113,73 @@ fn refuses_whole_texts(rt: HostRuntime) -> Result<(), Fail> {
 
 #[test]
 fn refuses_lines_above_begin(rt: HostRuntime) -> Result<(), Fail> {
-    for (line, reason) in [
-        ("level U 3 -", Reason::Twice),
-        ("level T 0 -", Reason::Twice),
-        ("level t 1 -", Reason::Form),
-        ("level 1T 1 -", Reason::Form),
-        ("level ABCDEFGHI 1 -", Reason::Form),
-        ("level \u{e9} 1 -", Reason::Form),
-        ("level T 8 -", Reason::Form),
-        ("level T 01 -", Reason::Form),
-        ("level T 1 ba", Reason::Form),
-        ("level T 1 aa", Reason::Form),
-        ("level T 1 q", Reason::Form),
-        ("level T 1 -a", Reason::Form),
-        ("level T 1", Reason::Form),
-        ("level T 1 ", Reason::Form),
-        ("level T 1 - -", Reason::Form),
-        ("host 0 U", Reason::Form),
-        ("host 251 U", Reason::Form),
-        ("host 01 U", Reason::Form),
-        ("host 18446744073709551617 U", Reason::Form),
-        ("host 1 u", Reason::Form),
-        ("host 1\tU", Reason::Form),
-        ("host 1 T", Reason::Name),
-        ("dss 1", Reason::Place),
-        ("send 1 1 00", Reason::Place),
-        ("end", Reason::Place),
-        ("begin 1", Reason::Form),
-        ("seal des", Reason::Form),
-        ("guard 0123456789abcdef 0123456789abcdef", Reason::Form),
-        ("store U true", Reason::Form),
-    ] {
-        let text = joined(rt.alloc(), &["dss 1\nlevel U 0 -\n", line, "\n"])?;
-        expect_refused(&rt, rt.alloc(), &text, 3, reason)?;
-    }
+    let head = joined(rt.alloc(), &["dss 1\nlevel U 0 -\n"])?;
+    let lines = "level t 1 -\n\
+         level 1T 1 -\n\
+         level ABCDEFGHI 1 -\n\
+         level \u{e9} 1 -\n\
+         level T 8 -\n\
+         level T 01 -\n\
+         level T 1 ba\n\
+         level T 1 aa\n\
+         level T 1 q\n\
+         level T 1 -a\n\
+         level T 1\n\
+         level T 1 \n\
+         level T 1 - -\n\
+         host 0 U\n\
+         host 251 U\n\
+         host 01 U\n\
+         host 18446744073709551617 U\n\
+         host 1 u\n\
+         host 1\tU\n\
+         begin 1";
+    expect_each(&rt, rt.alloc(), &head, 3, lines, Reason::Form)?;
+    let lines = "dss 1\n\
+         send 1 1 00\n\
+         end";
+    expect_each(&rt, rt.alloc(), &head, 3, lines, Reason::Place)?;
+    let lines = "host 1 T";
+    expect_each(&rt, rt.alloc(), &head, 3, lines, Reason::Name)?;
+    let lines = "level U 3 -\n\
+         level T 0 -";
+    expect_each(&rt, rt.alloc(), &head, 3, lines, Reason::Twice)?;
     Ok(())
 }
 
 #[test]
 fn refuses_lines_behind_begin(rt: HostRuntime) -> Result<(), Fail> {
-    for (line, reason) in [
-        ("send 1 9 00", Reason::Name),
-        ("send 9 1 00", Reason::Name),
-        ("send 01 2 00", Reason::Form),
-        ("send 0 2 00", Reason::Form),
-        ("send 1 2 6A", Reason::Form),
-        ("send 1 2 6", Reason::Form),
-        ("send 1 2 ", Reason::Form),
-        ("send 1 2 --", Reason::Form),
-        ("send 1 2", Reason::Form),
-        ("send 1 S 00", Reason::Form),
-        ("deliver 1>2#0.64 to 2", Reason::Form),
-        ("deliver 1>2#0.00 to 2", Reason::Form),
-        ("deliver 1>2#4294967296.0 to 2", Reason::Form),
-        ("deliver 1>2#0 to 2", Reason::Form),
-        ("deliver 1>2#0.0.0 to 2", Reason::Form),
-        ("deliver 1>2#0.0 to 9", Reason::Name),
-        ("carry 1>2#01 to 2", Reason::Form),
-        ("carry 1>2#0 at 2", Reason::Form),
-        ("carry 1>2>5#0 to 2", Reason::Form),
-        ("carry 1>2#0 to 2\r", Reason::Form),
-        ("carry 9>2#0 to 2", Reason::Name),
-        ("carry 1>9#0 to 2", Reason::Name),
-        ("put 1 note 6162", Reason::Form),
-        ("", Reason::Form),
-        ("level T 1 -", Reason::Place),
-        ("host 9 X", Reason::Place),
-        ("begin", Reason::Place),
-    ] {
-        let text = joined(rt.alloc(), &[HEAD, line, "\nend\n"])?;
-        expect_refused(&rt, rt.alloc(), &text, 9, reason)?;
-    }
+    let head = joined(rt.alloc(), &[HEAD])?;
+    let lines = "send 01 2 00\n\
+         send 0 2 00\n\
+         send 1 2 6A\n\
+         send 1 2 6\n\
+         send 1 2 \n\
+         send 1 2 --\n\
+         send 1 2\n\
+         deliver 1>2#0.64 to 2\n\
+         deliver 1>2#0.00 to 2\n\
+         deliver 1>2#4294967296.0 to 2\n\
+         deliver 1>2#0 to 2\n\
+         deliver 1>2#0.0.0 to 2\n\
+         carry 1>2#01 to 2\n\
+         carry 1>2#0 at 2\n\
+         carry 1>2>5#0 to 2";
+    expect_each(&rt, rt.alloc(), &head, 9, lines, Reason::Form)?;
+    let lines = "level T 1 -\n\
+         host 9 X\n\
+         begin";
+    expect_each(&rt, rt.alloc(), &head, 9, lines, Reason::Place)?;
+    let lines = "send 1 9 00\n\
+         send 9 1 00\n\
+         deliver 1>2#0.0 to 9\n\
+         carry 9>2#0 to 2\n\
+         carry 1>9#0 to 2";
+    expect_each(&rt, rt.alloc(), &head, 9, lines, Reason::Name)?;
+    let text = joined(rt.alloc(), &[HEAD, "carry 1>2#0 to 2\r\n"])?;
+    expect_refused(&rt, rt.alloc(), &text, 9, Reason::Form)?;
+    let text = joined(rt.alloc(), &[HEAD, "\n"])?;
+    expect_refused(&rt, rt.alloc(), &text, 9, Reason::Form)?;
     Ok(())
 }
 
@@ -190,16 +217,21 @@ fn refuses_one_too_many(rt: HostRuntime) -> Result<(), Fail> {
 }
 
 #[test]
-fn refuses_too_many_events_and_bytes(rt: HostRuntime) -> Result<(), Fail> {
+fn refuses_too_many_events(rt: HostRuntime) -> Result<(), Fail> {
     let mut text = joined(rt.alloc(), &[HEAD])?;
     for _ in 0..100_000u32 {
-        text.extend_from_slice(b"carry 1>2#0 to 2\n".as_slice())?;
+        text.extend_from_slice(b"send 1 2 -\n".as_slice())?;
     }
     let mut full = text.clone()?;
     full.extend_from_slice(b"end\n".as_slice())?;
     assert_eq!(rt; refusal_of(rt.alloc(), &full)?, None);
-    text.extend_from_slice(b"carry 1>2#0 to 2\n".as_slice())?;
+    text.extend_from_slice(b"send 1 2 -\n".as_slice())?;
     expect_refused(&rt, rt.alloc(), &text, 100_009, Reason::Many)?;
+    Ok(())
+}
+
+#[test]
+fn refuses_too_many_bytes(rt: HostRuntime) -> Result<(), Fail> {
     let mut long = vec![in rt.alloc(); b' '; 16_777_216]?;
     expect_refused(&rt, rt.alloc(), &long, 1, Reason::Form)?;
     long.push(b' ')?;
@@ -421,13 +453,8 @@ fn writes_lines_of_every_form(rt: HostRuntime) -> Result<(), Fail> {
     let text = write_script(alloc, &script)?;
     assert_eq!(rt; text.as_slice(), expected.as_slice());
     assert_eq!(rt; script.line_of(0), 15);
-    assert_eq!(rt;
-        refusal_of(alloc, &text)?,
-        Some(Refusal {
-            line: 2,
-            reason: Reason::Form
-        })
-    );
+    let again = write_script(alloc, &read_script(alloc, &text)?)?;
+    assert_eq!(rt; again.as_slice(), expected.as_slice());
     Ok(())
 }
 

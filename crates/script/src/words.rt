@@ -1,5 +1,6 @@
-ghost use Rattle.std.specs.Prelude.{◌≡◌};
-ghost use Rattle.script.specs.inside.Readers.{Reads, as_one, as_two, as_three, parts_at, words_behind};
+ghost use Rattle.std.specs.Prelude.{◌≡◌, ◌∷◌};
+ghost use Rattle.script.specs.inside.Readers.{Reads, as_one, as_two, as_three, as_four, parts_at};
+ghost use Rattle.script.specs.inside.Readers.{words, words_behind};
 
 use crate::cut::cut;
 
@@ -14,6 +15,16 @@ pub fn two_parts(text: &[u8], mark: u8) -> Option<(&[u8], &[u8])>
     match cut(second, mark) {
         None => Some((first, second)),
         Some(_) => None,
+    }
+}
+
+/// The first word of a text, and what stands behind it where there is more.
+pub fn first_word(text: &[u8]) -> (&[u8], Option<&[u8]>)
+    ensures { words text.now ≡ result.0.now ∷ words_behind result.1 }
+{
+    match cut(text, SPACE) {
+        Some((first, behind)) => (first, Some(behind)),
+        None => (text, None),
     }
 }
 
@@ -46,4 +57,14 @@ pub fn three_words(behind: Option<&[u8]>) -> Option<(&[u8], &[u8], &[u8])>
         None => Some((first, second, third)),
         Some(_) => None,
     }
+}
+
+/// The four words behind the first one of a line.
+pub fn four_words(behind: Option<&[u8]>) -> Option<(&[u8], &[u8], &[u8], &[u8])>
+    ensures { Reads (λ cut. (cut.0.now, cut.1.now, cut.2.now, cut.3.now)) result
+        (as_four (words_behind behind.entry)) }
+{
+    let (first, rest) = cut(behind?, SPACE)?;
+    let (second, third, fourth) = three_words(Some(rest))?;
+    Some((first, second, third, fourth))
 }

@@ -1,23 +1,30 @@
 -- What is owed for one input.
-use Rattle.std.specs.Prelude.{◌≡◌, ℕ, List}
+use Rattle.std.specs.Prelude.{◌≡◌, ◌⊎◌, ℕ, List, Option, Some, None}
 use Rattle.events.specs.ScriptView.{ScriptView}
-use Rattle.lattice_machine.specs.Text.{text}
-use Rattle.script.specs.declared.refusal.Refusal.{Refusal}
-use Rattle.script.specs.declared.refusal.Reason.TheVariants.{Many}
+use Rattle.script.specs.Reasons.{IsScriptOf}
+use Rattle.engine.specs.ReportView.{ReportView}
 use Rattle.replay.specs.declared.command.Command.{Command}
-use Rattle.replay.specs.declared.command.Command.TheVariants.{Replay, Check}
 use Rattle.replay.specs.declared.status.Status.{Status}
-use Rattle.replay.specs.Due.{check_line}
-
--- what a command writes of a script
-abbrev pub text_for : Command → ScriptView → List ℕ
-text_for Replay script = text script
-text_for Check script = check_line script
-
--- the refusal of an input that is too long
-abbrev pub too_long : Refusal
-too_long = record { line = 0; reason = Many }
+use Rattle.replay.specs.Due.{Due, IsAnswer}
+use Rattle.replay.specs.Kept.{KeepsReport}
 
 -- just this is due
 abbrev pub IsOwed : Status → List ℕ → Status → List ℕ → Type 0
-IsOwed status text' status' written = (status' ≡ status) × (written ≡ text')
+IsOwed status text status' written = (status' ≡ status) × (written ≡ text)
+
+-- this is due for a text, and this report is kept
+pub record IsOwedFor (bytes : List ℕ) (command : Command)
+    (status : Status) (text : List ℕ) (report : Option ReportView) : Type 0 where
+  pub due : Due bytes (Some command) status text
+  pub kept : KeepsReport (Some command) status (Some bytes) report
+
+-- it is for every text that says the script
+abbrev pub IsOwedOf :
+    ScriptView → Command → Status → List ℕ → Option ReportView → Type 0
+IsOwedOf script command status text report =
+    (bytes : List ℕ) → IsScriptOf bytes script → IsOwedFor bytes command status text report
+
+-- the report goes with the status that is owed, and with no fault
+abbrev pub GoesAlong : Status → Option ReportView → Status → Option ReportView → Type 0
+GoesAlong status report status' report' =
+    ((status' ≡ status) × (report' ≡ report)) ⊎ ((IsAnswer status' → ⊥) × (report' ≡ None))

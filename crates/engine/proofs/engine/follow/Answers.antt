@@ -1,28 +1,43 @@
-use Rattle.std.proofs.Common.{◌≡◌, ◌∷◌, List, length, Some, refl, sym, ap, subst, ◌∙◌}
-use Rattle.std.specs.Prelude.{slice_get}
-use Rattle.std.proofs.lemmas.Option.{slice_get_read}
-use Rattle.levels.specs.Rosters.{RosterView}
-use Rattle.events.specs.declared.event.Event.{Event}
-use Rattle.lattice_machine.specs.Laws.{after}
-use Rattle.engine.specs.Standing.{Stands}
-use Rattle.engine.proofs.Pasts.{after_more, few_before}
+use Rattle.std.proofs.Common.{sym, subst}
+use Rattle.std.specs.Prelude.{reverse, take}
+use Rattle.seal_core.specs.Sealing.{IsSealing}
+use Rattle.machine.specs.Setup.{setup_of}
+use Rattle.engine.specs.Reports.{StopsEarly}
+use Rattle.engine.specs.inside.Standing.{SetupOf}
+use Rattle.engine.proofs.Following.{setup_is, event_there, runs_on, stops}
 use Rattle.engine.proofs.engine.follow.Goals as goal
 
-pub loop-event-preserved : goal.loop-event-preserved
-loop-event-preserved c =
+pub loop-number-preserved : goal.loop-number-preserved
+loop-number-preserved g c =
     let script = c.args.script.now in
-    let k = c.loop-event.event-index in
-    let items = c.events-event-items.result.now in
-    let event = c.event-item.result in
-    let same = c.roster-roster.ensures.roster in
-    let there : slice_get script.events k ≡ Some event =
-    ap (λ (events : List Event). slice_get events k) (sym c.events-event-items.ensures)
-    ∙ slice_get_read items (length items) k event refl c.loop-event-test.true c.event-item.is in
-    let past = after script.events k in
-    let stepped = c.in_ok-step.ensures past
-    (few_before script k event c.roster-roster.ensures.kept there)
-    (subst (λ (r : RosterView). Stands r past c.loop-event.network) (sym same)
-    c.loop-event.invariant) in
-    subst (λ p. Stands script.roster p c.step.new.network)
-    (sym (after_more script.events k event there))
-    (subst (λ (r : RosterView). Stands r (event ∷ past) c.step.new.network) same stepped)
+    let n = c.loop-number.number in
+    let m = setup_of script in
+    let past = reverse (take n script.events) in
+    let setup = subst (SetupOf m g.S.Seal.sealed_text) (sym c.roster.ensures.roster)
+    (setup_is c.script_laws.ensures script g.S.Seal.sealed_text c.roster.ensures.kept c.requires.sealing) in
+    let fits = c.script_laws.ensures.fits script n c.roster.ensures.kept
+    (subst IsSealing (sym c.requires.sealing) c.sealing_laws.ensures) in
+    runs_on script n c.event-item.result c.loop-number.network.desks c.step.new.self.desks
+    c.loop-number.network.files c.step.new.self.files c.loop-number.sent.items c.keep.new.sent.items
+    c.in-Ok.row
+    (event_there script.events c.events-event-items.result.now n c.event-item.result
+    c.events-event-items.ensures c.loop-number-test.true c.event-item.is)
+    c.loop-number.invariant
+    (c.in-Ok.ensures m past setup fits c.loop-number.invariant.stands) c.in_ok-keep-in-Ok.ensures
+
+pub returns-in-Err : goal.returns-in-Err
+returns-in-Err g c =
+    let script = c.args.script.now in
+    let n = c.loop-number.number in
+    let m = setup_of script in
+    let past = reverse (take n script.events) in
+    let setup = subst (SetupOf m g.S.Seal.sealed_text) (sym c.roster.ensures.roster)
+    (setup_is c.script_laws.ensures script g.S.Seal.sealed_text c.roster.ensures.kept c.requires.sealing) in
+    let fits = c.script_laws.ensures.fits script n c.roster.ensures.kept
+    (subst IsSealing (sym c.requires.sealing) c.sealing_laws.ensures) in
+    subst (StopsEarly script) (sym c.stop_at.ensures)
+    (stops script n c.event-item.result c.loop-number.network.desks c.step.new.self.desks
+    c.loop-number.network.files c.step.new.self.files c.loop-number.sent.items c.in-Err.halt
+    (event_there script.events c.events-event-items.result.now n c.event-item.result
+    c.events-event-items.ensures c.loop-number-test.true c.event-item.is)
+    c.loop-number.invariant (c.in-Err.ensures m past setup fits c.loop-number.invariant.stands))

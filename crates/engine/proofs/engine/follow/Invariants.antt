@@ -1,6 +1,6 @@
-use Rattle.lattice_machine.specs.Laws.{after}
-use Rattle.engine.specs.Standing.{Stands}
+use Rattle.engine.specs.inside.Scripted.{HasRun}
 use Rattle.engine.proofs.engine.follow.Given as goal
 
-abbrev pub invariant-loop-event : goal.invariant-loop-event
-invariant-loop-event l = Stands l.script.roster (after l.script.events l.event-index) l.network
+abbrev pub invariant-loop-number : goal.invariant-loop-number
+invariant-loop-number g l =
+    HasRun l.script l.number l.network.desks l.network.files l.sent.items

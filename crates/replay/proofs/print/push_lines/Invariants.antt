@@ -1,6 +1,6 @@
 use Rattle.std.proofs.Common.{◌≡◌, ◌++◌, take}
 use Rattle.std.specs.List.{flat_map}
-use Rattle.lattice_machine.specs.Text.{told_text}
+use Rattle.machine.specs.Text.{told_text}
 use Rattle.replay.proofs.print.push_lines.Given as goal
 
 abbrev pub invariant-loop-line : goal.invariant-loop-line

@@ -1,5 +1,5 @@
 use Rattle.std.proofs.Common.{sym, ap, ◌∙◌, arith}
-use Rattle.lattice_machine.specs.Text.{text_to}
+use Rattle.replay.specs.inside.Printing.{text_to}
 use Rattle.replay.proofs.Due.{text_at_first, text_step}
 use Rattle.replay.proofs.print.text_to.Goals as goal
 

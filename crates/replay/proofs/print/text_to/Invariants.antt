@@ -1,5 +1,5 @@
 use Rattle.std.proofs.Common.{◌≡◌, ◌-◌}
-use Rattle.lattice_machine.specs.Text.{text_to}
+use Rattle.replay.specs.inside.Printing.{text_to}
 use Rattle.replay.proofs.print.text_to.Given as goal
 
 abbrev pub invariant-loop-address : goal.invariant-loop-address

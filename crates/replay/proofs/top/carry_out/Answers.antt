@@ -4,25 +4,13 @@ use Rattle.dss_io.specs.declared.reading.ReadStop.{ReadStop}
 use Rattle.replay.proofs.Ends.{delivers_due, owed_is_due, long_due, takes_long}
 use Rattle.replay.proofs.top.carry_out.Goals as goal
 
-pub returns-in-Ok-clause-read_fault : goal.returns-in-Ok-clause-read_fault
-returns-in-Ok-clause-read_fault g c = λ fault. absurd (c.answer.ensures.read fault)
-
-pub returns-in-Ok-clause-unwritten : goal.returns-in-Ok-clause-unwritten
-returns-in-Ok-clause-unwritten g c = λ fault. absurd (c.answer.ensures.read fault)
-
 pub returns-in-Err-TooMany-clause-delivers : goal.returns-in-Err-TooMany-clause-delivers
 returns-in-Err-TooMany-clause-delivers g c = λ bytes tells.
     let long = (rw tells at c.in-Err-TooMany.ensures.too_many)
     (ap (λ (s : ReadStop). Err s) c.in-Err-TooMany.field-0-is) in
-    delivers_due _ _ c.refuse_long.result _ _
+    delivers_due _ _ c.refuse_long.result.status _ _
     (owed_is_due bytes _ _ _ (long_due bytes c.args.command long)) c.refuse_long.ensures.answer
 
 pub returns-in-Err-TooMany-clause-taken : goal.returns-in-Err-TooMany-clause-taken
 returns-in-Err-TooMany-clause-taken g c =
     takes_long (Vec ℕ Global) _ _ _ _ c.in-Err-TooMany.field-0-is c.in-Err-TooMany.ensures.taken
-
-pub returns-in-Err-TooMany-clause-read_fault : goal.returns-in-Err-TooMany-clause-read_fault
-returns-in-Err-TooMany-clause-read_fault g c = λ fault. absurd (c.refuse_long.ensures.read fault)
-
-pub returns-in-Err-TooMany-clause-unwritten : goal.returns-in-Err-TooMany-clause-unwritten
-returns-in-Err-TooMany-clause-unwritten g c = λ fault. absurd (c.refuse_long.ensures.read fault)

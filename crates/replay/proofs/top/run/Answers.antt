@@ -5,8 +5,9 @@ use Rattle.replay.specs.Due.{Due, Delivers}
 use Rattle.replay.proofs.Ends.{usage_delivers}
 use Rattle.replay.proofs.top.run.Goals as goal
 
-pub returns-in-None-clause-delivers : goal.returns-in-None-clause-delivers
-returns-in-None-clause-delivers g c = λ bytes tells.
+pub returns-in_default-clause-delivers : goal.returns-in_default-clause-delivers
+returns-in_default-clause-delivers g c = λ bytes tells.
     let told = g.K.Sink.written c.args.sink.now in
-    subst (λ (words : Option Command). Delivers (Due bytes words) Usage told told) c.in-None.ensures
+    subst (λ (words : Option Command). Delivers (Due bytes words) Usage told told)
+    c.in_default.ensures
     (usage_delivers bytes told)

@@ -1,7 +1,7 @@
 use Rattle.std.proofs.Common.{◌≤◌, length, arith}
 use Rattle.script.specs.declared.read.TheConstants.{TEXT_LIMIT}
 use Rattle.script.specs.inside.Stages.{seen}
-use Rattle.script.proofs.Looping.{goes_on_by, stops_by, ends_badly_by, finishes_by, whole_text, whole_today, whole_hosts}
+use Rattle.script.proofs.Looping.{goes_on_by, stops_by, ends_badly_by, finishes_by, whole_text, whole_plan}
 use Rattle.script.proofs.Reached.{reached_none}
 use Rattle.script.proofs.read.read_script.Goals as goal
 
@@ -41,8 +41,7 @@ returns-in-Ok-finish c =
     record {
       exact = of;
       text = whole_text c.args.bytes.now c.in-Ok-finish.script of;
-      today = whole_today c.args.bytes.now c.in-Ok-finish.script of;
-      hosts = whole_hosts c.args.bytes.now c.in-Ok-finish.script of;
+      spelled = whole_plan c.args.bytes.now c.in-Ok-finish.script of;
     }
 
 pub returns-in-Err-finish-clause-exact : goal.returns-in-Err-finish-clause-exact

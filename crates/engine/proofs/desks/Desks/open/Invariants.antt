@@ -1,10 +1,9 @@
-use Rattle.std.proofs.Common.{◌≡◌, ℕ, ◌<◌, [], length}
-use Rattle.engine.specs.Desks.{desk_at}
-use Rattle.engine.specs.Standing.{SlotStands}
+use Rattle.std.proofs.Common.{◌≡◌, length}
+use Rattle.engine.proofs.Starting.{StartBelow}
 use Rattle.engine.proofs.desks.Desks.open.Given as goal
 
-abbrev pub invariant-loop-address : goal.invariant-loop-address
-invariant-loop-address l = record {
-  count : length l.slots.items ≡ l.address;
-  stand : (a : ℕ) → a < l.address → SlotStands l.roster [] a (desk_at l.slots.items a);
+abbrev pub invariant-loop-slot : goal.invariant-loop-slot
+invariant-loop-slot g l = record {
+  count : length l.slots.items ≡ l.slot;
+  start : StartBelow g.S.Seal.sealed_text l.roster l.slot l.slots.items;
 }

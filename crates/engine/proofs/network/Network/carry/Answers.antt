@@ -1,38 +1,29 @@
-use Rattle.std.proofs.Common.{sym, ◌∙◌}
-use Rattle.engine.proofs.Carrying.{upto_first, upto_next, ends_there, ends_full}
-use Rattle.engine.proofs.Giving.{hold}
+use Rattle.std.proofs.Common.{sym, subst, ◌∙◌, rules}
+use Rattle.std.proofs.lemmas.Result.{on_ok_weaker}
+use Rattle.levels.specs.declared.level.Party.TheVariants.{Host}
+use Rattle.events.specs.declared.event.Event.TheVariants.{Carry}
+use Rattle.planned_files.specs.Standing as planned
+use Rattle.machine.specs.Machine.{state}
+use Rattle.engine.specs.Slots.{HasSlot}
+use Rattle.engine.specs.inside.Standing.{Readied}
+use Rattle.engine.proofs.Joining.{carry_joins, found_ready}
+use Rattle.engine.proofs.Something.{carried_something}
 use Rattle.engine.proofs.network.Network.carry.Goals as goal
 
-pub loop-piece-init : goal.loop-piece-init
-loop-piece-init c = λ roster past stands. upto_first roster past c.args.from c.args.to
-    c.args.message c.args.at c.args.self.now c.ranges.at.fits stands
-
-pub returns-then-not-branch : goal.returns-then-not-branch
-returns-then-not-branch c = λ roster past stands.
-    ends_there roster past (record {
-      from = c.args.from;
-      to = c.args.to;
-      message = c.args.message;
-      piece = c.loop-piece.piece;
-    }) c.args.at c.loop-piece.self c.hand.new.self
-    (c.loop-piece.invariant roster past stands) c.in_ok-hand.ensures.handed
-    (sym c.in_ok-hand.ensures.sent ∙ c.if-not-branch.true)
-
-pub loop-piece-preserved : goal.loop-piece-preserved
-loop-piece-preserved c = λ roster past stands.
-    upto_next roster past (record {
-      from = c.args.from;
-      to = c.args.to;
-      message = c.args.message;
-      piece = c.loop-piece.piece;
-    }) c.args.at c.loop-piece.self c.hand.new.self
-    c.pieces_carry_their_message.ensures.each
-    (hold c.pieces_carry_their_message.ensures.joined
-    c.pieces_carry_their_message.ensures.reached)
-    (c.loop-piece.invariant roster past stands) c.in_ok-hand.ensures.handed
-    (sym c.in_ok-hand.ensures.sent ∙ c.if-not-branch.false)
-
 pub returns : goal.returns
-returns c = λ roster past stands. ends_full roster past c.args.from c.args.to c.args.message
-    c.loop-piece.piece c.args.at c.loop-piece.self c.loop-piece-test.false
-    (c.loop-piece.invariant roster past stands)
+returns g c =
+    let stream = c.args.stream in
+    let j = c.args.message in
+    let has : HasSlot stream.from = search rules in
+    on_ok_weaker c.join.result
+    (λ joined m past sealed fits known stands.
+    (let ready = c.in_ok-ready.ensures.ready m past sealed stands.desks_stand in
+    joined m past (Carry stream j (Host c.args.at)) stream.from sealed fits
+    (carry_joins m (state m past) stream j c.args.at)
+    (carried_something c.machine_laws.ensures m past stream j (Host c.args.at) fits)
+    (found_ready g.S.Seal.sealed_text stream j c.ready.new.self.desks c.find.new.self.handed.items
+    c.in_ok-find.ensures.found m past sealed fits known has ready)
+    (subst (Readied m past stream.from) (sym c.in_ok-find.ensures.desks) ready)
+    (subst (λ fs. planned.StandsFor m fs (state m past).calls)
+    (sym (c.in_ok-find.ensures.files ∙ c.in_ok-ready.ensures.files)) stands.files_stand)))
+    c.join.ensures

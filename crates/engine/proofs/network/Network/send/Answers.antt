@@ -1,42 +1,20 @@
-use Rattle.std.proofs.Common.{sym, ◌∙◌, refl}
+use Rattle.std.proofs.Common.{ℕ, sym, subst, ◌∙◌}
 use Rattle.std.proofs.lemmas.Result.{on_ok_weaker}
-use Rattle.engine.proofs.Answering.{network_refuses, network_sends}
+use Rattle.engine.specs.inside.Standing.{desk_at, SlotSays}
+use Rattle.engine.proofs.Networking.{network_after_send}
 use Rattle.engine.proofs.network.Network.send.Goals as goal
 
-pub returns-in-None : goal.returns-in-None
-returns-in-None c = λ roster past few known to_known partition stands.
-    let sent = c.in_ok-send.ensures in
-    network_refuses roster past c.args.from c.args.to c.args.message.now c.args.self.now
-    (record { desks = c.send.new.self; sent = c.args.self.now.sent; out = c.args.self.now.out })
-    (record {
-      within = c.ranges.from.fits;
-      few = few;
-      known = known;
-      to_known = to_known;
-      here =
-          sent.here;
-      others = c.send.ensures.others;
-      drawn = sym c.in-None.is ∙ sent.number;
-    })
-    refl stands
-
-pub returns-in-Some : goal.returns-in-Some
-returns-in-Some c =
-    let sent = c.in_ok-send.ensures in
-    on_ok_weaker c.keep.result
-    (λ kept roster past few known to_known partition stands.
-    network_sends roster past c.args.from c.args.to c.in-Some.number c.args.partition
-    c.args.message.now c.args.self.now
-    (record { desks = c.send.new.self; sent = c.keep.new.self; out = c.args.self.now.out })
-    (record {
-      within = c.ranges.from.fits;
-      few = few;
-      known = known;
-      to_known = to_known;
-      here =
-          sent.here;
-      others = c.send.ensures.others;
-      drawn = sym c.in-Some.is ∙ sent.number;
-    })
-    partition kept stands)
-    c.keep.ensures
+pub returns : goal.returns
+returns g c =
+    let old = c.args.self.now.desks in
+    let new = c.send.new.self in
+    let message = c.args.message.now in
+    on_ok_weaker c.send.result
+    (λ here m past e sealed fits is joins none stands. network_after_send c.machine_laws.ensures m past e
+    c.args.from c.args.to message old new c.args.self.now.files fits c.ranges.from.fits is joins none
+    (subst (λ (k : ℕ). SlotSays m.sealed c.args.to message (desk_at old k) (desk_at new k))
+    c.from-slot.ensures
+    (subst (λ s. SlotSays s c.args.to message (desk_at old c.from-slot.result)
+    (desk_at new c.from-slot.result)) (sym sealed) here))
+    (λ k differ. c.send.ensures.others k (λ same. differ (same ∙ c.from-slot.ensures))) stands)
+    c.send.ensures.here

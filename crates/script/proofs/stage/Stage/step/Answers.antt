@@ -4,4 +4,4 @@ use Rattle.script.proofs.stage.Stage.step.Goals as goal
 
 pub take-requires-clause-ranges : goal.take-requires-clause-ranges
 take-requires-clause-ranges c = (line_takes c.args.text.now (meant c.in_ok-line.line)
-    c.in_ok-line.ensures).1.0
+    c.in_ok-line.ensures).1

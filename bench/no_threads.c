@@ -1,0 +1,23 @@
+/* Refuses every thread, as a system does that has no more to give: for LD_PRELOAD. For each it appends a byte to the file
+   that NO_THREADS names. */
+#include <errno.h>
+#include <fcntl.h>
+#include <pthread.h>
+#include <stdlib.h>
+#include <unistd.h>
+
+int pthread_create(pthread_t *thread, const pthread_attr_t *attributes, void *(*start)(void *), void *word)
+{
+    const char *path = getenv("NO_THREADS");
+    int file = path ? open(path, O_WRONLY | O_APPEND) : -1;
+    (void)thread;
+    (void)attributes;
+    (void)start;
+    (void)word;
+    if (file >= 0) {
+        if (write(file, ".", 1) != 1)
+            abort();
+        close(file);
+    }
+    return EAGAIN;
+}

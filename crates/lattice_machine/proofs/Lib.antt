@@ -1,6 +1,0 @@
-mod Arrivals
-mod Bools
-mod Giving
-mod LowPart
-mod Order
-mod Steps

@@ -1,6 +1,0 @@
-use Rattle.std.proofs.Common.{take}
-use Rattle.unit_engine.specs.inside.Merging.{IsMerged}
-use Rattle.unit_engine.proofs.merging.merge_rows.Given as goal
-
-abbrev pub invariant-loop-row : goal.invariant-loop-row
-invariant-loop-row l = IsMerged l.wires (take l.row-index l.sent) l.taken l.counts l.frames.items
