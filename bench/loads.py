@@ -98,6 +98,12 @@ def messages(hosts, count, sealing, most, longest=0):
     return text(roster(hosts, sealing) + day.lines + ["end"])
 
 
+def twice(path):
+    """The script in a file, two times over."""
+    with open(path, "rb") as file:
+        return 2 * file.read()
+
+
 def files_and_messages(hosts, count):
     """The same, where one event in three is of a file call that is carried and answered."""
     day = Day(hosts, 240, 5632)

@@ -1,5 +1,5 @@
 -- How a call ends.
-use Rattle.std.proofs.Common.{◌≡◌, ℕ, ◌+◌, ◌<◌, List, [], length, Option, Some, None, sym, subst, inl, inr, arith, append-nil}
+use Rattle.std.proofs.Common.{◌≡◌, ℕ, ◌+◌, ◌<◌, List, [], length, Option, Some, None, refl, sym, ◌∙◌, subst, inl, inr, arith, append-nil}
 use Rattle.std.specs.Io.KnownBytes.{Appends}
 use Rattle.std.specs.Prelude.{Err}
 use Rattle.dss_io.specs.Reading.{Takes, TakesAtMost, TakesByAnswer}
@@ -9,8 +9,13 @@ use Rattle.script.specs.declared.read.TheConstants.{TEXT_LIMIT}
 use Rattle.replay.specs.declared.command.Command.{Command}
 use Rattle.replay.specs.declared.status.Status.{Status}
 use Rattle.replay.specs.declared.status.Status.TheVariants.{Fine, Usage, Refused, ReadFault, WriteFault, Opened, OutOfMemory}
-use Rattle.replay.specs.Due.{Due, usage, long, refused_line, too_long, WritesAll, WritesBeginning, Delivers}
-use Rattle.replay.specs.inside.Owing.{IsOwed}
+use Rattle.replay.specs.Words.{Reads}
+use Rattle.replay.specs.Lines.{refused_line, too_long}
+use Rattle.events.specs.ScriptView.{ScriptView}
+use Rattle.engine.specs.ReportView.{ReportView}
+use Rattle.replay.specs.Twins.{line_count, DueForScripts, unnamed, apart, opened_first, opened_second, alike, DueForTwins, first_refused, second_refused, compared}
+use Rattle.replay.specs.Due.{Due, usage, long, refused, checked, opened, run, twins, drilled, WritesAll, WritesBeginning, Delivers, IsAnswer}
+use Rattle.replay.specs.inside.Owing.{IsOwed, IsOwedFor, GoesAlong}
 
 -- all that is due in one sense is due in another
 abbrev pub IsDueToo : (Status → List ℕ → Type 0) → (Status → List ℕ → Type 0) → Type 0
@@ -61,6 +66,49 @@ takes_long T limit left now stop is taken =
     (subst (λ (s : ReadStop). TakesByAnswer {T = T} limit left now (Err s)) is taken)
 
 -- what is due for an input that is too long
-pub long_due : (bytes : List ℕ) (command : Command) → TEXT_LIMIT < length bytes
+pub long_due : (bytes : List ℕ) (command : Command) → Reads (Some command) → TEXT_LIMIT < length bytes
     → Due bytes (Some command) (Refused too_long) (refused_line too_long)
-long_due bytes command more = long command more
+long_due bytes command reads more = long command reads more
+
+-- ---- what is due is an answer
+
+scripts_answer : (name : List ℕ) (above : ℕ) (a b : ScriptView) (status : Status) (text : List ℕ)
+    → DueForScripts name above a b status text → IsAnswer status × (status ≡ Usage → ⊥)
+scripts_answer name above a b status text (unnamed none) = (tt, λ e. cc)
+scripts_answer name above a b status text (apart level place named at) = (tt, λ e. cc)
+scripts_answer name above a b status text (opened_first level event named same first) = (tt, λ e. cc)
+scripts_answer name above a b status text (opened_second level event named same none first) = (tt, λ e. cc)
+scripts_answer name above a b status text (alike level named same none other) = (tt, λ e. cc)
+
+twins_answer : (name first second : List ℕ) (status : Status) (text : List ℕ)
+    → DueForTwins name first second status text → IsAnswer status × (status ≡ Usage → ⊥)
+twins_answer name first second status text (first_refused refusal own) = (tt, λ e. cc)
+twins_answer name first second status text (second_refused refusal clean own) = (tt, λ e. cc)
+twins_answer name first second status text (compared a b own written said other due) =
+    scripts_answer name (line_count first) a b status text due
+
+-- what is due is an answer, and `Usage` for words of no form alone
+due_answer : (bytes : List ℕ) (command : Option Command) (status : Status) (text : List ℕ)
+    → Due bytes command status text → IsAnswer status × (status ≡ Usage → command ≡ None)
+due_answer bytes command status text usage = (tt, λ e. refl)
+due_answer bytes command status text (long own reads more) = (tt, λ e. absurd cc)
+due_answer bytes command status text (refused own refusal one short first) = (tt, λ e. absurd cc)
+due_answer bytes command status text (checked script said) = (tt, λ e. absurd cc)
+due_answer bytes command status text (opened shown script event said first) = (tt, λ e. absurd cc)
+due_answer bytes command status text (run shown script said none) = (tt, λ e. absurd cc)
+due_answer bytes command status text (twins name first second own written short cut due) =
+    let answer = twins_answer name first second status text due in
+    (answer.0, λ e. absurd (answer.1 e))
+due_answer bytes command status text (drilled seed count) = (tt, λ e. absurd cc)
+
+pub owed_answers : (bytes : List ℕ) (command : Command) (status : Status) (text : List ℕ)
+    (report : Option ReportView) → IsOwedFor bytes command status text report → IsAnswer status
+owed_answers bytes command status text report owed = (due_answer bytes (Some command) status text owed.due).0
+
+pub owed_uses : (bytes : List ℕ) (command : Command) (status status' : Status) (text : List ℕ)
+    (report report' : Option ReportView) → IsOwedFor bytes command status text report
+    → GoesAlong status report status' report' → status' ≡ Usage → ⊥
+owed_uses bytes command status status' text report report' owed (inl same) is =
+    let none = (due_answer bytes (Some command) status text owed.due).1 (sym same.0 ∙ is) in cc
+owed_uses bytes command status status' text report report' owed (inr other) is =
+    other.0 (subst IsAnswer (sym is) tt)

@@ -1,3 +1,7 @@
-mod Due
+mod Hosts
+mod Counting
+mod Totals
+mod Numbers
 mod Owing
+mod TwoTexts
 mod Ends

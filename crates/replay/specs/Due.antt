@@ -1,66 +1,24 @@
 -- What is due for the words of a call and its input: a status and a text.
-use Rattle.std.specs.Prelude.{◌<◌, ◌⊎◌, ℕ, List, [], ◌∷◌, length, codes, Option, Some, None, if◌then◌else◌}
-use Rattle.std.specs.Str.{bytes_eq}
-use Rattle.std.specs.Fmt.{decimal}
+use Rattle.std.specs.Prelude.{◌≢◌, ◌<◌, ◌≤◌, ◌⊎◌, ℕ, List, [], length, Option, Some, None}
 use Rattle.std.specs.Io.KnownBytes.{Keeps, Appends, IsAtEnd}
 use Rattle.dss_io.specs.Writing.{AppendsProperPrefix}
 use Rattle.events.specs.ScriptView.{ScriptView}
 use Rattle.events.specs.Scripts.{line_of}
 use Rattle.script.specs.declared.read.TheConstants.{TEXT_LIMIT}
 use Rattle.script.specs.declared.refusal.Refusal.{Refusal}
-use Rattle.script.specs.declared.refusal.Reason.{Reason}
-use Rattle.script.specs.declared.refusal.Reason.TheVariants as reason
 use Rattle.script.specs.Reasons.{FirstRefusal, IsScriptOf}
 use Rattle.machine.specs.FalseBytes.{NoneFalse, IsFirstFalse}
-use Rattle.machine.specs.Text.{line, text, wire_text}
+use Rattle.machine.specs.Text.{text, wire_text}
 use Rattle.replay.specs.declared.command.Command.{Command}
-use Rattle.replay.specs.declared.command.Command.TheVariants.{Check, Run}
+use Rattle.replay.specs.declared.command.Command.TheVariants.{Check, Run, Twin, Drill}
 use Rattle.replay.specs.declared.command.Shown.{Shown}
 use Rattle.replay.specs.declared.command.Shown.TheVariants.{Hosts, Wire}
 use Rattle.replay.specs.declared.status.Status.{Status}
 use Rattle.replay.specs.declared.status.Status.TheVariants.{Fine, Usage, Refused, ReadFault, WriteFault, Opened, OutOfMemory}
-
--- what one word asks for
-abbrev pub command_named : List ℕ → Option Command
-command_named word =
-    if bytes_eq word (codes "replay") then Some (Run Hosts)
-    else if bytes_eq word (codes "check") then Some Check
-    else if bytes_eq word (codes "wire") then Some (Run Wire)
-    else None
-
--- what the words ask for, if they have one of the forms
-abbrev pub command_of : List (List ℕ) → Option Command
-command_of (word ∷ []) = command_named word
-command_of words = None
-
-abbrev pub reason_word : Reason → List ℕ
-reason_word reason.Form = codes "form"
-reason_word reason.Place = codes "place"
-reason_word reason.Name = codes "name"
-reason_word reason.Twice = codes "twice"
-reason_word reason.Many = codes "many"
-reason_word reason.Key = codes "key"
-reason_word reason.End = codes "end"
-
-abbrev pub refused_line : Refusal → List ℕ
-refused_line refusal =
-    line (codes "refused" ∷ decimal refusal.line ∷ reason_word refusal.reason ∷ [])
-
--- the refusal of an input that is too long
-abbrev pub too_long : Refusal
-too_long = record { line = 0; reason = reason.Many }
-
--- how many levels, hosts, plan rows and events a script has
-abbrev pub check_line : ScriptView → List ℕ
-check_line script = line
-    (codes "ok" ∷ codes "levels" ∷ decimal (length script.roster.levels)
-    ∷ codes "hosts" ∷ decimal (length script.roster.hosts)
-    ∷ codes "store" ∷ decimal (length script.rows)
-    ∷ codes "events" ∷ decimal (length script.events) ∷ [])
-
--- the line of the script at which false bytes opened
-abbrev pub opened_line : ℕ → List ℕ
-opened_line number = line (codes "opened" ∷ decimal number ∷ [])
+use Rattle.replay.specs.Words.{IsOfOne, Reads}
+use Rattle.replay.specs.Lines.{refused_line, too_long, check_line, opened_line}
+use Rattle.replay.specs.Twins.{IsCut, DueForTwins}
+use Rattle.replay.specs.Summary.{drill_text}
 
 -- what is shown of a script that was run: its text, or its wire
 abbrev pub shown_text : Shown → ScriptView → List ℕ
@@ -72,10 +30,11 @@ pub data Due (bytes : List ℕ) : Option Command → Status → List ℕ → Typ
   -- the words have none of the forms
   usage : Due bytes None Usage []
   -- the input is too long
-  long : (command : Command) → TEXT_LIMIT < length bytes
+  long : (command : Command) → Reads (Some command) → TEXT_LIMIT < length bytes
       → Due bytes (Some command) (Refused too_long) (refused_line too_long)
   -- the input is no script
-  refused : (command : Command) (refusal : Refusal) → FirstRefusal bytes refusal
+  refused : (command : Command) (refusal : Refusal) → IsOfOne command
+      → length bytes ≤ TEXT_LIMIT → FirstRefusal bytes refusal
       → Due bytes (Some command) (Refused refusal) (refused_line refusal)
   -- the counts of a script
   checked : (script : ScriptView) → IsScriptOf bytes script
@@ -89,6 +48,12 @@ pub data Due (bytes : List ℕ) : Option Command → Status → List ℕ → Typ
   run : (shown : Shown) (script : ScriptView) → IsScriptOf bytes script
       → NoneFalse script (length script.events)
       → Due bytes (Some (Run shown)) Fine (shown_text shown script)
+  -- what is due for the two scripts of an input
+  twins : (name first second : List ℕ) (status : Status) (text : List ℕ)
+      → length bytes ≤ TEXT_LIMIT → IsCut bytes first second
+      → DueForTwins name first second status text → Due bytes (Some (Twin name)) status text
+  -- the summary of a drill
+  drilled : (seed count : ℕ) → Due bytes (Some (Drill seed count)) Fine (drill_text seed count)
 
 -- something is due with this status, and all of its text was written
 abbrev pub WritesAll :
@@ -123,9 +88,9 @@ IsAnswer WriteFault = ⊥
 IsAnswer (Opened line') = Unit {0}
 IsAnswer OutOfMemory = ⊥
 
--- the input was read to its end where it is answered, unless it is refused as a whole, at line 0
+-- the input was read to its end where it is answered, unless it is too long
 abbrev pub ReadsToEnd : Status → Option (List ℕ) → Type 0
 ReadsToEnd Fine left = IsAtEnd left
-ReadsToEnd (Refused refusal) left = 0 < refusal.line → IsAtEnd left
+ReadsToEnd (Refused refusal) left = refusal ≢ too_long → IsAtEnd left
 ReadsToEnd (Opened line') left = IsAtEnd left
 ReadsToEnd _ left = Unit {0}

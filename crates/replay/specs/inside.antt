@@ -1,2 +1,4 @@
+pub mod Commands
 pub mod Owing
 pub mod Printing
+pub mod Reading

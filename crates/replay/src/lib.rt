@@ -2,10 +2,13 @@
 #![tactic(auto)]
 
 mod command;
+mod lines;
 mod owed;
 mod print;
 mod status;
+mod summary;
 mod top;
+mod twins;
 mod wire;
 
 pub use status::Status;

@@ -1,17 +1,24 @@
-ghost use Rattle.std.specs.Prelude.{◌≡◌, IfOk, None};
-ghost use Rattle.engine.specs.Reports.{IsReport, StopsAt};
-ghost use Rattle.replay.specs.Due.{reason_word, refused_line, check_line, opened_line, shown_text};
-ghost use Rattle.replay.specs.declared.command.Command.TheVariants.{Check, Run};
+ghost use Rattle.std.specs.Prelude.{◌≡◌, ◌≤◌, ℕ, List, length, IfOk, None};
+ghost use Rattle.script.specs.Answers.{AnswersText};
+ghost use Rattle.engine.specs.Reports.{IsReport, EndsRun};
+ghost use Rattle.drill.specs.Drills.{drill};
+ghost use Rattle.replay.specs.Lines.{refused_line, opened_line};
+ghost use Rattle.replay.specs.Due.{shown_text};
+ghost use Rattle.replay.specs.declared.command.Command.TheVariants.{Check, Run, Twin, Drill};
 ghost use Rattle.replay.specs.declared.status.Status.TheVariants.{Refused};
-ghost use Rattle.replay.specs.inside.Owing.{IsOwedFor, IsOwedOf};
+ghost use Rattle.replay.specs.inside.Commands.{HasRange};
+ghost use Rattle.replay.specs.inside.Owing.{IsOwedFor, IsOwedOf, IsOwedAlways, IsStop};
 
 use crate::command::{Command, Shown};
+use crate::lines::{check_line, opened_line, refused_line};
 use crate::status::Status;
+use crate::summary::summary;
+use crate::twins::twins_owed;
 use crate::{print, wire};
+use drill::{a_drill_has_nothing_false, drill_script};
 use engine::{Engine, EngineStop, Report};
-use events::push_number;
 use ring_link::Gate;
-use script::{Reason, Refusal, Script, ScriptRefused, read_script};
+use script::{Refusal, Script, ScriptRefused, TEXT_LIMIT, read_script};
 use std::alloc::{AllocError, Global};
 use std::thread::Threads;
 
@@ -23,71 +30,6 @@ pub struct Owed {
     pub report: Option<Report>,
 }
 
-fn reason_word(reason: Reason) -> &'static [u8]
-    ensures { result.now ≡ reason_word reason }
-{
-    match reason {
-        Reason::Form => b"form".as_slice(),
-        Reason::Place => b"place".as_slice(),
-        Reason::Name => b"name".as_slice(),
-        Reason::Twice => b"twice".as_slice(),
-        Reason::Many => b"many".as_slice(),
-        Reason::Key => b"key".as_slice(),
-        Reason::End => b"end".as_slice(),
-    }
-}
-
-fn refused_line(alloc: Global, refusal: Refusal) -> Result<Vec<u8>, AllocError>
-    ensures { IfOk result (λ line. line.items ≡ refused_line refusal) }
-{
-    let mut line = Vec::new(alloc);
-    line.extend_from_slice(b"refused ".as_slice())?;
-    push_number(alloc, &mut line, refusal.line)?;
-    line.extend_from_slice(b" ".as_slice())?;
-    line.extend_from_slice(reason_word(refusal.reason))?;
-    line.extend_from_slice(b"\n".as_slice())?;
-    Ok(line)
-}
-
-fn check_line(alloc: Global, script: &Script) -> Result<Vec<u8>, AllocError>
-    ensures { IfOk result (λ line. line.items ≡ check_line script.now) }
-{
-    let roster = script.roster();
-    let rows = script.rows().len() as u32;
-    let events = script.events().len() as u32;
-    let mut line = Vec::new(alloc);
-    line.extend_from_slice(b"ok levels ".as_slice())?;
-    push_number(alloc, &mut line, u32::from(roster.level_count()))?;
-    line.extend_from_slice(b" hosts ".as_slice())?;
-    push_number(alloc, &mut line, u32::from(roster.host_count()))?;
-    line.extend_from_slice(b" store ".as_slice())?;
-    push_number(alloc, &mut line, rows)?;
-    line.extend_from_slice(b" events ".as_slice())?;
-    push_number(alloc, &mut line, events)?;
-    line.extend_from_slice(b"\n".as_slice())?;
-    Ok(line)
-}
-
-fn opened_line(alloc: Global, number: u32) -> Result<Vec<u8>, AllocError>
-    ensures { IfOk result (λ line. line.items ≡ opened_line number) }
-{
-    let mut line = Vec::new(alloc);
-    line.extend_from_slice(b"opened ".as_slice())?;
-    push_number(alloc, &mut line, number)?;
-    line.extend_from_slice(b"\n".as_slice())?;
-    Ok(line)
-}
-
-fn shown_text(alloc: Global, shown: Shown, report: &Report) -> Result<Vec<u8>, AllocError>
-    requires { IsReport report.now.script report.now }
-    ensures { IfOk result (λ written. written.items ≡ shown_text shown report.now.script) }
-{
-    match shown {
-        Shown::Hosts => print::text(alloc, report),
-        Shown::Wire => wire::wire(alloc, report),
-    }
-}
-
 /// What is due for an input that is refused.
 pub fn refusal_owed(alloc: Global, refusal: Refusal) -> Result<Owed, AllocError>
     ensures { IfOk result (λ owed. (owed.status ≡ Refused refusal)
@@ -96,6 +38,28 @@ pub fn refusal_owed(alloc: Global, refusal: Refusal) -> Result<Owed, AllocError>
     Ok(Owed {
         status: Status::Refused(refusal),
         text: refused_line(alloc, refusal)?,
+        report: None,
+    })
+}
+
+/// What is due where a reading gave no script.
+pub fn stop_owed(alloc: Global, stop: ScriptRefused) -> Result<Owed, AllocError>
+    ensures { IfOk result (λ owed. IsStop stop owed.status owed.text.items owed.report) }
+{
+    match stop {
+        ScriptRefused::Refused(refusal) => refusal_owed(alloc, refusal),
+        ScriptRefused::OutOfMemory => Err(AllocError),
+    }
+}
+
+/// What is due where false bytes opened.
+pub fn opened_owed(alloc: Global, number: u32) -> Result<Owed, AllocError>
+    ensures { IfOk result (λ owed. (owed.status ≡ Status.Opened number)
+        × (owed.text.items ≡ opened_line number) × (owed.report ≡ None)) }
+{
+    Ok(Owed {
+        status: Status::Opened(number),
+        text: opened_line(alloc, number)?,
         report: None,
     })
 }
@@ -112,16 +76,26 @@ fn counts_owed(alloc: Global, script: &Script) -> Result<Owed, AllocError>
     })
 }
 
-/// What is due where false bytes opened.
-fn opened_owed(alloc: Global, number: u32) -> Result<Owed, AllocError>
-    ensures { IfOk result (λ owed. (owed.status ≡ Status.Opened number)
-        × (owed.text.items ≡ opened_line number) × (owed.report ≡ None)) }
+/// What is due for an input that is checked.
+fn check_owed(alloc: Global, bytes: &[u8]) -> Result<Owed, AllocError>
+    requires { length bytes.now ≤ TEXT_LIMIT }
+    ensures { IfOk result (λ owed.
+        IsOwedFor bytes.now Check owed.status owed.text.items owed.report) }
 {
-    Ok(Owed {
-        status: Status::Opened(number),
-        text: opened_line(alloc, number)?,
-        report: None,
-    })
+    match read_script(alloc, bytes) {
+        Ok(script) => counts_owed(alloc, &script),
+        Err(stop) => stop_owed(alloc, stop),
+    }
+}
+
+fn shown_text(alloc: Global, shown: Shown, report: &Report) -> Result<Vec<u8>, AllocError>
+    requires { IsReport report.now.script report.now }
+    ensures { IfOk result (λ written. written.items ≡ shown_text shown report.now.script) }
+{
+    match shown {
+        Shown::Hosts => print::text(alloc, report),
+        Shown::Wire => wire::wire(alloc, report),
+    }
 }
 
 /// What is due for a script that was run to its end.
@@ -138,8 +112,20 @@ fn report_owed(alloc: Global, shown: Shown, report: Report) -> Result<Owed, Allo
     })
 }
 
+/// Runs a script.
+pub fn run_script<R: Threads, G: Gate + Sync>(
+    rt: &R,
+    alloc: Global,
+    script: Script,
+    gate: &G,
+) -> Result<Report, EngineStop>
+    ensures { EndsRun script result }
+{
+    Engine::open(alloc, script)?.run(rt, gate)
+}
+
 /// Runs a script, and answers what is due for it.
-fn run_owed<R: Threads, G: Gate + Sync>(
+fn script_owed<R: Threads, G: Gate + Sync>(
     rt: &R,
     alloc: Global,
     shown: Shown,
@@ -149,30 +135,70 @@ fn run_owed<R: Threads, G: Gate + Sync>(
     ensures { IfOk result (λ owed.
         IsOwedOf script (Run shown) owed.status owed.text.items owed.report) }
 {
-    match Engine::open(alloc, script)?.run(rt, gate) {
+    match run_script(rt, alloc, script, gate) {
         Ok(report) => report_owed(alloc, shown, report),
         Err(EngineStop::Opened(number)) => opened_owed(alloc, number),
         Err(EngineStop::OutOfMemory) => Err(AllocError),
     }
 }
 
-fn script_owed<R: Threads, G: Gate + Sync>(
+/// What is due for an input that is run.
+fn run_owed<R: Threads, G: Gate + Sync>(
     rt: &R,
     alloc: Global,
-    command: Command,
-    script: Script,
+    shown: Shown,
+    bytes: Vec<u8>,
     gate: &G,
 ) -> Result<Owed, AllocError>
+    requires { length bytes.items ≤ TEXT_LIMIT }
     ensures { IfOk result (λ owed.
-        IsOwedOf script command owed.status owed.text.items owed.report) }
+        IsOwedFor bytes.items (Run shown) owed.status owed.text.items owed.report) }
 {
-    match command {
-        Command::Check => counts_owed(alloc, &script),
-        Command::Run(shown) => run_owed(rt, alloc, shown, script, gate),
+    match read_script(alloc, &bytes) {
+        Ok(script) => {
+            drop(bytes);
+            script_owed(rt, alloc, shown, script, gate)
+        }
+        Err(stop) => stop_owed(alloc, stop),
     }
 }
 
-/// What is due for an input.
+/// What is due for a drill that was run to its end.
+fn summary_owed(alloc: Global, seed: u32, count: u32, report: Report) -> Result<Owed, AllocError>
+    requires { IsReport (drill seed count) report }
+    ensures { IfOk result (λ owed.
+        IsOwedAlways (Drill seed count) owed.status owed.text.items owed.report) }
+{
+    let text = summary(alloc, seed, count, &report)?;
+    Ok(Owed {
+        status: Status::Fine,
+        text,
+        report: Some(report),
+    })
+}
+
+/// Runs a drill, and answers what is due for it.
+fn drill_owed<R: Threads, G: Gate + Sync>(
+    rt: &R,
+    alloc: Global,
+    seed: u32,
+    count: u32,
+    gate: &G,
+) -> Result<Owed, AllocError>
+    requires { HasRange (Drill seed count) }
+    ensures { IfOk result (λ owed.
+        IsOwedAlways (Drill seed count) owed.status owed.text.items owed.report) }
+{
+    a_drill_has_nothing_false();
+    let script = drill_script(alloc, seed, count)?;
+    match run_script(rt, alloc, script, gate) {
+        Ok(report) => summary_owed(alloc, seed, count, report),
+        Err(EngineStop::Opened(_)) => unreachable!(),
+        Err(EngineStop::OutOfMemory) => Err(AllocError),
+    }
+}
+
+/// What is due for an input, or for a drill, which has none.
 pub fn answer_to<R: Threads, G: Gate + Sync>(
     rt: &R,
     alloc: Global,
@@ -180,15 +206,15 @@ pub fn answer_to<R: Threads, G: Gate + Sync>(
     bytes: Vec<u8>,
     gate: &G,
 ) -> Result<Owed, AllocError>
+    requires short { length bytes.items ≤ TEXT_LIMIT }
+    requires range { HasRange command }
     ensures { IfOk result (λ owed.
         IsOwedFor bytes.items command owed.status owed.text.items owed.report) }
 {
-    match read_script(alloc, &bytes) {
-        Ok(script) => {
-            drop(bytes);
-            script_owed(rt, alloc, command, script, gate)
-        }
-        Err(ScriptRefused::Refused(refusal)) => refusal_owed(alloc, refusal),
-        Err(ScriptRefused::OutOfMemory) => Err(AllocError),
+    match command {
+        Command::Check => check_owed(alloc, &bytes),
+        Command::Run(shown) => run_owed(rt, alloc, shown, bytes, gate),
+        Command::Twin(name) => twins_owed(rt, alloc, &name, bytes, gate),
+        Command::Drill { seed, count } => drill_owed(rt, alloc, seed, count, gate),
     }
 }

@@ -1,22 +1,23 @@
 ghost use Rattle.std.specs.Prelude.{◌≡◌, ◌++◌, ◌<◌, OnOk, IfOk};
 ghost use Rattle.std.specs.List.{flat_map};
-ghost use Rattle.levels.specs.declared.level.Party.TheVariants.{Manager};
+ghost use Rattle.levels.specs.declared.level.Party.TheVariants.{Host, Manager};
 ghost use Rattle.levels.specs.Rosters.{host_row};
 ghost use Rattle.events.specs.Words.{party_word};
-ghost use Rattle.machine.specs.Text.{refusal_word, told_text, heading, host_text, text};
+ghost use Rattle.machine.specs.Low.{is_low};
+ghost use Rattle.machine.specs.Text.{refusal_word, told_text, heading, host_text, due_to, text, text_below};
 ghost use Rattle.machine.specs.declared.line.OutLine.TheVariants.{Sent, Refused, From};
 ghost use Rattle.engine.specs.Reports.{IsReport};
-ghost use Rattle.replay.specs.inside.Printing.{due_at, text_to};
+ghost use Rattle.replay.specs.inside.Printing.{at_row, hosts_to, due_below};
 
 use engine::Report;
 use events::{Body, push_hex, push_number};
 use frame::SendRefused;
-use levels::{Partition, Party, Roster};
+use levels::{Level, Partition, Party, Roster};
 use machine::OutLine;
 use std::alloc::{AllocError, Global};
 
 /// The greatest address of a host.
-const LAST_ADDRESS: u8 = 250;
+pub const LAST_ADDRESS: u8 = 250;
 
 /// Appends a host's address, or the name of a manager unit's level.
 pub fn push_party(
@@ -163,8 +164,8 @@ fn push_host_at(
     address: u8,
 ) -> Result<(), AllocError>
     requires { IsReport report.now.script report.now }
-    ensures { OnOk result (out.new.items ≡ out.old.items
-        ++ due_at report.now.script (host_row report.now.script.roster address)) }
+    ensures { OnOk result (out.new.items ≡ out.old.items ++ at_row
+        (due_to report.now.script) (host_row report.now.script.roster address)) }
 {
     let roster = report.script().roster();
     let Some(partition) = roster.partition_of(Party::Host(address)) else {
@@ -184,7 +185,8 @@ fn push_host_at(
 fn text_to(alloc: Global, report: &Report, last: u8) -> Result<Vec<u8>, AllocError>
     requires last { last < 255 }
     requires report { IsReport report.now.script report.now }
-    ensures { IfOk result (λ written. written.items ≡ text_to report.now.script last) }
+    ensures { IfOk result (λ written. written.items
+        ≡ hosts_to (due_to report.now.script) report.now.script.roster last) }
 {
     let mut out = Vec::new(alloc);
     for address in 1..last + 1 {
@@ -199,4 +201,65 @@ pub fn text(alloc: Global, report: &Report) -> Result<Vec<u8>, AllocError>
     ensures { IfOk result (λ written. written.items ≡ text report.now.script) }
 {
     text_to(alloc, report, LAST_ADDRESS)
+}
+
+/// Whether the host of an address is at or below a level.
+fn is_low(roster: &Roster, level: &Level, address: u8) -> bool
+    ensures { result ≡ is_low roster.now level.now (Host address) }
+{
+    match roster.level_of(Party::Host(address)) {
+        Some(own) => own.at_most(level),
+        None => false,
+    }
+}
+
+/// What is due to the host of an address, if there is one at or below a level.
+fn push_low_host_at(
+    alloc: Global,
+    out: &mut Vec<u8>,
+    report: &Report,
+    level: &Level,
+    address: u8,
+) -> Result<(), AllocError>
+    requires { IsReport report.now.script report.now }
+    ensures { OnOk result (out.new.items ≡ out.old.items ++ at_row
+        (due_below level.now report.now.script) (host_row report.now.script.roster address)) }
+{
+    if is_low(report.script().roster(), level, address) {
+        return push_host_at(alloc, out, report, address);
+    }
+    Ok(())
+}
+
+/// What is due to the hosts of the addresses from 1 to the last that are at or below a level.
+fn push_low_hosts(
+    alloc: Global,
+    out: &mut Vec<u8>,
+    report: &Report,
+    level: &Level,
+    last: u8,
+) -> Result<(), AllocError>
+    requires last { last < 255 }
+    requires report { IsReport report.now.script report.now }
+    ensures { OnOk result (out.new.items ≡ out.old.items ++ hosts_to
+        (due_below level.now report.now.script) report.now.script.roster last) }
+{
+    for address in 1..last + 1 {
+        push_low_host_at(alloc, out, report, level, address)?;
+    }
+    Ok(())
+}
+
+/// Appends the text of the hosts at or below a level.
+pub fn push_text_below(
+    alloc: Global,
+    out: &mut Vec<u8>,
+    report: &Report,
+    level: &Level,
+) -> Result<(), AllocError>
+    requires { IsReport report.now.script report.now }
+    ensures { OnOk result (out.new.items ≡ out.old.items
+        ++ text_below level.now report.now.script) }
+{
+    push_low_hosts(alloc, out, report, level, LAST_ADDRESS)
 }

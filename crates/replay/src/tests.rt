@@ -1,6 +1,8 @@
+mod drills;
 mod false_bytes;
 mod faults;
 mod runs;
+mod twins;
 mod units;
 
 use crate::{Status, run};
@@ -72,8 +74,8 @@ pub fn expect_bytes<R: Threads + Abort>(
     let (answer, is_kept) = ask(rt, alloc, asked, &mut source, &mut sink)?;
     assert_eq!(rt; answer, status);
     assert!(rt; sink.contents() == written);
-    let runs = asked.iter().all(|word| *word != "check");
-    assert_eq!(rt; is_kept, runs && status == Status::Fine);
+    let keeps = asked.iter().all(|word| *word != "check" && *word != "twin");
+    assert_eq!(rt; is_kept, keeps && status == Status::Fine);
     Ok(())
 }
 

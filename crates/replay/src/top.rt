@@ -1,10 +1,13 @@
-ghost use Rattle.std.specs.Prelude.{◌≡◌, ◌≢◌, ◌⊎◌, ◌↔◌, ◌+◌, ℕ, List, map, string_bytes, Some, None};
+ghost use Rattle.std.specs.Prelude.{◌≡◌, ◌≢◌, ◌⊎◌, ◌↔◌, ◌+◌, ◌≤◌, ℕ, List, length, map, string_bytes, Some, None};
 ghost use Rattle.dss_io.specs.Faults.{Rose};
 ghost use Rattle.dss_io.specs.Reading.{TakesAtMost};
 ghost use Rattle.replay.specs.declared.status.Status.{Status};
 ghost use Rattle.replay.specs.declared.status.Status.TheVariants.{Refused};
-ghost use Rattle.replay.specs.Due.{command_of, refused_line, too_long, Due, Delivers, IsAnswer, ReadsToEnd};
+ghost use Rattle.replay.specs.Words.{command_of, Reads};
+ghost use Rattle.replay.specs.Lines.{refused_line, too_long};
+ghost use Rattle.replay.specs.Due.{Due, Delivers, IsAnswer, ReadsToEnd};
 ghost use Rattle.replay.specs.Kept.{KeepsReport};
+ghost use Rattle.replay.specs.inside.Commands.{HasRange};
 ghost use Rattle.replay.specs.inside.Owing.{IsOwed, GoesAlong};
 
 use crate::command::{Command, command_of};
@@ -61,7 +64,7 @@ fn deliver<K: Sink>(sink: &mut K, owed: Owed) -> Ended
     }
 }
 
-/// Answers an input that was read.
+/// Answers an input that was read, or a drill, which has none.
 fn answer<R: Threads, K: Sink, G: Gate + Sync>(
     rt: &R,
     alloc: Global,
@@ -70,6 +73,8 @@ fn answer<R: Threads, K: Sink, G: Gate + Sync>(
     sink: &mut K,
     gate: &G,
 ) -> Ended
+    requires short { length bytes.items ≤ TEXT_LIMIT }
+    requires range { HasRange command }
     ensures answer { Delivers (Due bytes.items (Some command)) result.status
         (K.written sink.old) (K.written sink.new) }
     ensures kept { KeepsReport (Some command) result.status (Some bytes.items) result.report }
@@ -109,12 +114,16 @@ fn carry_out<R: Threads, S: Source, K: Sink, G: Gate + Sync>(
     sink: &mut K,
     gate: &G,
 ) -> Ended
-    ensures delivers { (bytes : List ℕ) → S.left source.old ≡ Some bytes →
+    requires { HasRange command }
+    ensures delivers { (bytes : List ℕ)
+        → (Reads (Some command) → S.left source.old ≡ Some bytes) →
         Delivers (Due bytes (Some command)) result.status
         (K.written sink.old) (K.written sink.new) }
     ensures kept { KeepsReport (Some command) result.status (S.left source.old) result.report }
+    ensures unread { ¬ Reads (Some command) → source.new ≡ source.old }
+    ensures reads { result.status ≡ Status.ReadFault → Reads (Some command) }
     ensures taken { TakesAtMost (S.left source.old) (S.left source.new) (TEXT_LIMIT + 1) }
-    ensures end { ReadsToEnd result.status (S.left source.new) }
+    ensures end { Reads (Some command) → ReadsToEnd result.status (S.left source.new) }
     ensures read_fault { result.status ≡ Status.ReadFault
         → Rose (S.faults source.old) (S.faults source.new) }
     ensures unwritten { result.status ≡ Status.ReadFault → sink.new ≡ sink.old }
@@ -122,6 +131,9 @@ fn carry_out<R: Threads, S: Source, K: Sink, G: Gate + Sync>(
         → Rose (K.faults sink.old) (K.faults sink.new) }
     ensures used { result.status ≢ Status.Usage }
 {
+    if !command.reads() {
+        return answer(rt, alloc, command, Vec::new(alloc), sink, gate);
+    }
     match read_all(alloc, source, TEXT_LIMIT) {
         Ok(bytes) => answer(rt, alloc, command, bytes, sink, gate),
         Err(ReadStop::TooMany) => refuse_long(alloc, sink),
@@ -130,8 +142,8 @@ fn carry_out<R: Threads, S: Source, K: Sink, G: Gate + Sync>(
     }
 }
 
-/// Does what the words ask for: reads the source to its end, but no further than one byte past
-/// 16,777,216 bytes, and writes what is due to the sink in one go.
+/// Does what the words ask for: for a drill it reads nothing, and else the source to its end, but
+/// no further than one byte past 16,777,216 bytes. It writes what is due to the sink in one go.
 ///
 /// Want of memory is the one free answer.
 pub fn run<R: Threads, S: Source, K: Sink, G: Gate + Sync>(
@@ -147,13 +159,15 @@ pub fn run<R: Threads, S: Source, K: Sink, G: Gate + Sync>(
     ensures usage { (result ≡ Status.Usage) ↔ (command_of (map string_bytes words.now) ≡ None) }
     ensures unused { result ≡ Status.Usage → (source.new ≡ source.old) × (sink.new ≡ sink.old) }
 
-    // Of a source that tells its bytes: what is answered is due, and all of its text was written;
-    // after a fault of writing, or want of memory, no more than the beginning of it was.
-    ensures delivers { (bytes : List ℕ) → S.left source.old ≡ Some bytes →
+    // Of a source that tells its bytes, or of any where nothing is read: what is answered is due,
+    // and all of its text was written; after a fault of writing, or want of memory, no more than
+    // the beginning of it was.
+    ensures delivers { (bytes : List ℕ)
+        → (Reads (command_of (map string_bytes words.now)) → S.left source.old ≡ Some bytes) →
         Delivers (Due bytes (command_of (map string_bytes words.now))) result
         (K.written sink.old) (K.written sink.new) }
 
-    // What is kept: the report of the script that was run, where all that it shows was written.
+    // What is kept: the report of the one script that was run, where all that is due was written.
     ensures kept { KeepsReport (command_of (map string_bytes words.now)) result
         (S.left source.old) kept.new }
 
@@ -169,9 +183,13 @@ pub fn run<R: Threads, S: Source, K: Sink, G: Gate + Sync>(
         → ¬ Rose (K.faults sink.old) (K.faults sink.new)
         → IsAnswer result ⊎ (result ≡ Status.OutOfMemory) }
 
-    // What is taken from the source, whatever the answer; and that it was read to its end.
+    // What is taken from the source, whatever the answer: nothing where the words don't ask for an
+    // input, and else it was read to its end.
+    ensures unread { ¬ Reads (command_of (map string_bytes words.now))
+        → (source.new ≡ source.old) × (result ≢ Status.ReadFault) }
     ensures taken { TakesAtMost (S.left source.old) (S.left source.new) (TEXT_LIMIT + 1) }
-    ensures end { ReadsToEnd result (S.left source.new) }
+    ensures end { Reads (command_of (map string_bytes words.now))
+        → ReadsToEnd result (S.left source.new) }
 {
     *kept = None;
     let Some(command) = command_of(words) else {

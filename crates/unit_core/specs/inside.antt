@@ -1,3 +1,4 @@
+pub mod Bodies
 pub mod Messages
 pub mod Outs
 pub mod Ours

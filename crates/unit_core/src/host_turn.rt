@@ -13,7 +13,7 @@ use crate::messages::Messages;
 use crate::parts::HostOut;
 use crate::rows::SendAnswer;
 use crate::sends::Outgoing;
-use frame::{MESSAGE_LIMIT, Piece, cut, pieces};
+use frame::{Piece, cut, pieces};
 use host_side::HostSide;
 use ring_link::{Gate, HostEnd};
 
@@ -26,7 +26,7 @@ fn offer_all<G: Gate>(
     number: u32,
     message: &[u8],
 )
-    requires short { length message.now ≤ MESSAGE_LIMIT }
+    requires short { length message.now ≤ 5632 }
     requires room { pieces message.now ≤ spare end.old }
     ensures taken { taken_by end.new ≡ taken_by end.old
         ++ map (piece_of host.now.address to host.now.partition number message.now)
@@ -134,19 +134,19 @@ fn hear_some<G: Gate>(
     gate: &G,
     polls: u16,
     messages: &mut Messages,
+    body: &mut [u8; 5632],
 ) -> u16
     requires polls { polls ≤ 256 }
     requires none { messages.old.list ≡ [] }
     ensures { HearsSome polls host.old host.new end.old end.new messages.old messages.new
         result }
 {
-    let mut body = [0; MESSAGE_LIMIT];
     let mut heard = 0;
     for _ in 0..polls {
         let Some(piece) = end.poll(gate) else {
             return heard;
         };
-        heard = hear_if_mine(host, heard, &piece, messages, &mut body);
+        heard = hear_if_mine(host, heard, &piece, messages, body);
     }
     heard
 }
@@ -169,5 +169,6 @@ pub(crate) fn host_turn<G: Gate>(
         result }
 {
     send_all(host, end, gate, sends, &mut out.answers);
-    hear_some(host, end, gate, polls, &mut out.messages)
+    let (messages, body) = (&mut out.messages, &mut out.body);
+    hear_some(host, end, gate, polls, messages, body)
 }

@@ -3,6 +3,7 @@
 //! frames and messages.
 #![tactic(auto)]
 
+mod bodies;
 mod host_turn;
 mod messages;
 mod net_turn;

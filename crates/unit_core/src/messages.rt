@@ -1,6 +1,7 @@
-ghost use Rattle.std.specs.Prelude.{◌≡◌, ◌+◌, ◌^◌, ◌<◌, ◌≤◌, [], ◌∷◌, ◌++◌, length, map, vec_len, vec_capacity, slice_index, IfOk};
+ghost use Rattle.std.specs.Prelude.{◌≡◌, ◌+◌, ◌^◌, ◌<◌, ◌≤◌, [], ◌∷◌, ◌++◌, length, map, vec_capacity, slice_index, IfOk};
 ghost use Rattle.unit_core.specs.inside.Messages.{joined, rows_from, renumbered, row_renumbered};
 
+use crate::bodies::Bodies;
 use crate::rows::GivenRow;
 use std::alloc::{AllocError, Global};
 use std::marker::Model;
@@ -15,7 +16,7 @@ const BODIES: usize = 1_441_792;
 #[derive(Drop)]
 pub(crate) struct Messages {
     rows: Vec<GivenRow>,
-    bodies: Vec<u8>,
+    bodies: Bodies,
 }
 
 impl Model for Messages {
@@ -26,17 +27,6 @@ impl Model for Messages {
     ghost view = { view_of };
 
     ghost invariant = { AreMessages };
-}
-
-/// Appends bytes for which there is room, and takes no memory.
-fn append(bodies: &mut Vec<u8>, bytes: &[u8])
-    requires { vec_len bodies.old + length bytes.now ≤ vec_capacity bodies.old }
-    ensures items { bodies.new.items ≡ bodies.old.items ++ bytes.now }
-    ensures memory { vec_capacity bodies.new ≡ vec_capacity bodies.old }
-{
-    for byte in bytes {
-        bodies.push_reserved(*byte);
-    }
 }
 
 /// The index of the frame at this place, or 0 past the last one.
@@ -71,7 +61,7 @@ impl Messages {
     {
         Ok(Messages {
             rows: Vec::with_capacity(alloc, ROWS)?,
-            bodies: Vec::with_capacity(alloc, BODIES)?,
+            bodies: Bodies::open(alloc, BODIES)?,
         })
     }
 
@@ -104,7 +94,7 @@ impl Messages {
             length: body.len() as u16,
         };
         self.rows.push_reserved(row);
-        append(&mut self.bodies, body);
+        self.bodies.append(body);
     }
 
     /// Gives each message the frame at its place, in place of that place.
@@ -131,6 +121,6 @@ impl Messages {
     pub(crate) fn bodies(&self) -> &[u8]
         ensures { result.now ≡ joined self.now.list }
     {
-        &self.bodies
+        self.bodies.bytes()
     }
 }

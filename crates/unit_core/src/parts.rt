@@ -2,6 +2,7 @@ ghost use Rattle.std.specs.Prelude.{◌≤◌, vec_capacity};
 
 use crate::messages::Messages;
 use crate::rows::{FrameKind, SendAnswer};
+use frame::MESSAGE_LIMIT;
 use std::alloc::{AllocError, Global};
 
 /// How many sends a turn takes.
@@ -15,6 +16,8 @@ const FRAMES: usize = 256;
 pub(crate) struct HostOut {
     pub(crate) answers: Vec<SendAnswer>,
     pub(crate) messages: Messages,
+    /// Where a message is put together before it joins the others.
+    pub(crate) body: [u8; MESSAGE_LIMIT],
     ghost answers_room: { 4 ≤ vec_capacity answers },
 }
 
@@ -42,6 +45,7 @@ impl HostOut {
         Ok(HostOut {
             answers,
             messages: Messages::open(alloc)?,
+            body: [0; MESSAGE_LIMIT],
         })
     }
 

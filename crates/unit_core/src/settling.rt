@@ -10,14 +10,19 @@ use crate::host_turn::hear;
 use crate::messages::Messages;
 use crate::net_turn::seal;
 use crate::parts::NetOut;
-use frame::MESSAGE_LIMIT;
 use host_side::HostSide;
 use net_side::NetSide;
 use ring_link::{Link, Side};
 use seal_core::Seal;
 
 /// Hears the rest, once both ends are in one thread again.
-pub(crate) fn hear_rest(host: &mut HostSide, link: &mut Link, heard: u16, messages: &mut Messages)
+pub(crate) fn hear_rest(
+    host: &mut HostSide,
+    link: &mut Link,
+    heard: u16,
+    messages: &mut Messages,
+    body: &mut [u8; 5632],
+)
     requires linked { IsLinked link.old }
     requires few { AreFew heard messages.old.list }
     requires mine { InOrder Side.Host link.old →
@@ -30,11 +35,10 @@ pub(crate) fn hear_rest(host: &mut HostSide, link: &mut Link, heard: u16, messag
     ensures link { SameLink link.old link.new }
     ensures memory { SameMemory link.old link.new }
 {
-    let mut body = [0; MESSAGE_LIMIT];
     let mut number = heard;
     let mut next = link.settle(Side::Host);
     while let Some(piece) = next {
-        hear(host, number, &piece, messages, &mut body);
+        hear(host, number, &piece, messages, body);
         number += 1;
         next = link.settle(Side::Host);
     }

@@ -152,6 +152,7 @@ impl<S: Seal + Send + Sync> Unit<S> {
             &mut self.link,
             heard,
             &mut out.host.messages,
+            &mut out.host.body,
         );
         seal_rest(&self.net, &mut self.link, &mut out.net);
         out.host.renumber(&out.net.places);

@@ -13,9 +13,24 @@ use std::thread::Threads;
 
 /// Counts the pushes of each side.
 #[derive(Drop)]
-struct Pushes {
+pub struct Pushes {
     host: AtomicU64,
     net: AtomicU64,
+}
+
+impl Pushes {
+    pub fn new() -> Pushes {
+        Pushes {
+            host: AtomicU64::new(0),
+            net: AtomicU64::new(0),
+        }
+    }
+
+    /// The pushes of both sides.
+    pub fn all(&self) -> u64 {
+        let net = self.net.load(Ordering::SeqCst);
+        self.host.load(Ordering::SeqCst).saturating_add(net)
+    }
 }
 
 impl Gate for Pushes {
@@ -51,10 +66,7 @@ fn kept_of<R: Threads + Abort, G: Gate + Sync>(
 
 #[test]
 fn both_sides_of_units_push(rt: HostRuntime) -> Result<(), Fail> {
-    let gate = Pushes {
-        host: AtomicU64::new(0),
-        net: AtomicU64::new(0),
-    };
+    let gate = Pushes::new();
     let _report = kept_of(&rt, rt.alloc(), "replay", [HEAD, FIRST], &gate)?;
     assert!(rt; gate.host.load(Ordering::SeqCst) > 0);
     assert!(rt; gate.net.load(Ordering::SeqCst) > 0);

@@ -33,7 +33,7 @@ rows_from start (m ∷ messages) = row_at start m ∷ rows_from (start + length 
 abbrev pub view_of : Inside → MessagesView
 view_of a = record {
   list = map (message_in a.bodies.items) a.rows.items;
-  room = vec_capacity a.rows ∷ vec_capacity a.bodies ∷ [];
+  room = vec_capacity a.rows ∷ a.bodies.room ∷ [];
 }
 
 -- The bytes stand one after the other, and there is room for 256 messages of 5,632 bytes.
@@ -41,7 +41,7 @@ pub record AreMessages (a : Inside) : Type 0 where
   pub rows : a.rows.items ≡ rows_from 0 (view_of a).list
   pub bodies : a.bodies.items ≡ joined (view_of a).list
   pub rows_room : 256 ≤ vec_capacity a.rows
-  pub bodies_room : 1441792 ≤ vec_capacity a.bodies
+  pub bodies_room : a.bodies.most ≡ 1441792
 
 -- there are at most n messages, of at most 5,632 bytes on average
 pub record AreFew (n : ℕ) (messages : List GivenMessage) : Type 0 where

@@ -1,14 +1,16 @@
-use Rattle.std.proofs.Common.{ℕ, ap, ◌∙◌}
+use Rattle.std.proofs.Common.{subst, List, ℕ}
+use Rattle.std.specs.Prelude.{Err}
 use Rattle.std.proofs.lemmas.Result.{IfOk-weaker}
-use Rattle.replay.specs.declared.status.Status.TheVariants.{Opened}
-use Rattle.replay.specs.Due.{opened_line}
-use Rattle.replay.proofs.Owing.{stops, stops_at}
+use Rattle.script.specs.Answers.{AnswersText}
+use Rattle.replay.specs.declared.command.Command.TheVariants.{Run}
+use Rattle.replay.proofs.Owing.{refuses}
 use Rattle.replay.proofs.owed.run_owed.Goals as goal
 
-pub returns-in-Err-Opened : goal.returns-in-Err-Opened
-returns-in-Err-Opened g c =
-    let at = stops_at _ _ _ _ c.in_ok-open.ensures c.in-Err-Opened.field-0-is c.in-Err-Opened.ensures in
-    IfOk-weaker c.opened_owed.result _ _
-    (λ owed h. stops c.args.shown c.args.script c.in-Err-Opened.number owed.status owed.text.items owed.report at
-    (h.0 ∙ ap (λ (n : ℕ). Opened n) c.in-Err-Opened.number-is) (h.1 ∙ ap opened_line c.in-Err-Opened.number-is) h.2)
-    c.opened_owed.ensures
+pub returns-in-Err : goal.returns-in-Err
+returns-in-Err g c =
+    let answers =
+    subst (λ (b : List ℕ). AnswersText b (Err c.in-Err.stop)) c.deref.ensures.value c.in-Err.ensures.exact in
+    IfOk-weaker c.stop_owed.result _ _
+    (λ owed h. refuses c.args.bytes.items (Run c.args.shown) c.in-Err.stop owed.status owed.text.items owed.report tt
+    c.requires answers h)
+    c.stop_owed.ensures

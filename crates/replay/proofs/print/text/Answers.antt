@@ -1,6 +1,6 @@
 use Rattle.std.proofs.Common.{◌∙◌}
 use Rattle.std.proofs.lemmas.Result.{IfOk-weaker}
-use Rattle.replay.proofs.Due.{text_whole}
+use Rattle.replay.proofs.Hosts.{text_whole}
 use Rattle.replay.proofs.print.text.Goals as goal
 
 pub returns : goal.returns

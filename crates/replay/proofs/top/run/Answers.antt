@@ -9,5 +9,5 @@ pub returns-in_default-clause-delivers : goal.returns-in_default-clause-delivers
 returns-in_default-clause-delivers g c = λ bytes tells.
     let told = g.K.Sink.written c.args.sink.now in
     subst (λ (words : Option Command). Delivers (Due bytes words) Usage told told)
-    c.in_default.ensures
+    c.in_default.ensures.value
     (usage_delivers bytes told)

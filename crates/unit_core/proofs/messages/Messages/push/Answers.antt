@@ -15,14 +15,14 @@ message_of c = record {
 }
 
 laid : (c : goal.After-append)
-    → AreLaid c.push_reserved.new.self.items c.append.new.bodies.items
+    → AreLaid c.push_reserved.new.self.items c.append.new.self.items
     ((view_of c.self.inside).list ++ message_of c ∷ [])
 laid c =
     let before = laid_more c.self.inside.rows.items c.self.inside.bodies.items (view_of c.self.inside).list
     (message_of c)
     (record { rows_are = c.self.invariant.rows; bodies_are = c.self.invariant.bodies }) in
     let start : c.len.result ≡ length c.self.inside.bodies.items =
-    omega (arith, c.len.ensures, c.self.inside.bodies.ok.0) in
+    c.len.ensures in
     record {
       rows_are = c.push_reserved.ensures.items
           ∙ ap (λ n. c.self.inside.rows.items ++ row_at n (message_of c) ∷ []) start ∙ before.rows_are;
@@ -42,5 +42,5 @@ invariant_of-self c =
       rows = l.rows_are;
       bodies = l.bodies_are;
       rows_room = omega (arith, c.push_reserved.ensures.capacity, c.self.invariant.rows_room);
-      bodies_room = omega (arith, c.append.ensures.memory, c.self.invariant.bodies_room);
+      bodies_room = c.append.ensures.most ∙ c.self.invariant.bodies_room;
     }

@@ -1,0 +1,2 @@
+pub mod LowParts
+pub mod Comparing
