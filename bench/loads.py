@@ -98,6 +98,15 @@ def messages(hosts, count, sealing, most, longest=0):
     return text(roster(hosts, sealing) + day.lines + ["end"])
 
 
+def sends(hosts, count):
+    """Sends alone, of 100 to 200 bytes."""
+    day = Day(hosts, 0, 0)
+    for _ in range(count):
+        a, b = day.random.randint(1, hosts), day.random.randint(1, hosts)
+        day.lines.append(f"send {a} {b} {day.random.randbytes(day.random.randint(100, 200)).hex()}")
+    return text(roster(hosts, "clear") + day.lines + ["end"])
+
+
 def twice(path):
     """The script in a file, two times over."""
     with open(path, "rb") as file:

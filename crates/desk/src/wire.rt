@@ -5,6 +5,10 @@ ghost use Rattle.desk.specs.Wires.{no_wire, message_frames, with_message};
 use std::alloc::{AllocError, Global};
 use std::marker::Model;
 
+/// For how many frames there is room at first: 128 KiB, which the system gives as pages of its
+/// own, so that none is used before a frame needs it and a larger room takes no copy.
+const ROOM: usize = 1024;
+
 /// Where the frames of a message stand: from the frame `first`, `count` of them.
 #[derive(Clone, Copy)]
 struct Run {
@@ -56,11 +60,9 @@ impl Wire {
     pub(crate) fn new(alloc: Global) -> Result<Wire, AllocError>
         ensures { IfOk result (λ wire. wire ≡ no_wire) }
     {
+        let frames = Vec::with_capacity(alloc, ROOM)?;
         let runs = no_runs(alloc)?;
-        Ok(Wire {
-            frames: Vec::new(alloc),
-            runs,
-        })
+        Ok(Wire { frames, runs })
     }
 
     /// All frames, in the order in which they were sealed.

@@ -144,6 +144,15 @@ fn none_counted(alloc: Global, streams: usize) -> Result<Vec<u32>, AllocError>
     vec![in alloc; 0u32; streams]
 }
 
+/// How many frames there are of these messages.
+fn frame_count(sent: &[SentRow]) -> usize {
+    let mut count: usize = 0;
+    for row in sent {
+        count = count.saturating_add(usize::from(row.pieces));
+    }
+    count
+}
+
 /// All frames, in order of event and piece: those of each message are the next of its sender.
 pub(crate) fn merge_all(
     alloc: Global,
@@ -158,7 +167,7 @@ pub(crate) fn merge_all(
 {
     let mut taken = none_taken(alloc, SLOTS)?;
     let mut counts = none_counted(alloc, STREAMS)?;
-    let mut frames = Vec::new(alloc);
+    let mut frames = Vec::with_capacity(alloc, frame_count(sent))?;
     merge_rows(sent, wires, &mut taken, &mut counts, &mut frames)?;
     Ok(frames)
 }

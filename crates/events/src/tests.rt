@@ -422,11 +422,11 @@ fn bodies(rt: HostRuntime) -> Result<(), Fail> {
 fn words(rt: HostRuntime) -> Result<(), Fail> {
     let mut text = Vec::new(rt.alloc());
     for n in [0, 9, 10, 250, 100_000, 4_294_967_295] {
-        push_number(rt.alloc(), &mut text, n)?;
+        push_number(&mut text, n)?;
         text.push(b' ')?;
     }
     for bytes in [b"".as_slice(), b"\0", b"hi", b"\x0a\xf0\xff"] {
-        push_hex(rt.alloc(), &mut text, bytes)?;
+        push_hex(&mut text, bytes)?;
         text.push(b' ')?;
     }
     let expected = b"0 9 10 250 100000 4294967295 - 00 6869 0af0ff ".as_slice();

@@ -1,5 +1,6 @@
 mod Apart
 mod Bits
 mod Growth
+mod Homes
 mod Padding
 mod SameKeys

@@ -1,5 +1,6 @@
 #![tactic(auto)]
 
+mod hosts;
 mod keys;
 mod level;
 mod name;

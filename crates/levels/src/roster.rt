@@ -10,6 +10,7 @@ ghost use Rattle.levels.specs.Adding.{AddsLevel, AddsKeys, SetsGuard, AddsHost, 
 ghost use Rattle.levels.specs.declared.level.Sealing.TheVariants.{Des};
 ghost use Rattle.levels.specs.declared.roster.RosterStop.TheVariants.{OutOfMemory};
 
+use crate::hosts::Hosts;
 use crate::keys::{clear_pair, is_key_of, is_key_of_guard, is_same_key, is_weak_key};
 use crate::level::{Level, Partition, Party, Sealing};
 use crate::name::LevelName;
@@ -42,6 +43,14 @@ pub enum RosterStop {
     OutOfMemory,
 }
 
+impl From<AllocError> for RosterStop {
+    ghost from_gives = { λ _ stop. stop ≡ OutOfMemory };
+
+    fn from(_failed: AllocError) -> RosterStop {
+        RosterStop::OutOfMemory
+    }
+}
+
 impl<T: Drop> From<AllocFailed<T>> for RosterStop {
     ghost from_gives = { λ _ stop. stop ≡ OutOfMemory };
 
@@ -57,7 +66,7 @@ pub struct Roster {
     levels: Vec<LevelRow>,
     keys: Vec<KeyPair>,
     guard: Option<KeyPair>,
-    hosts: Vec<HostRow>,
+    hosts: Hosts,
 }
 
 impl Model for Roster {
@@ -93,17 +102,6 @@ fn place_of(levels: &[LevelRow], name: &LevelName) -> Option<usize>
         .position(|row| row.name.bytes() == name.bytes())
 }
 
-fn row_of(hosts: &[HostRow], address: u8) -> Option<HostRow>
-    ensures { result ≡ find (λ row. row.address == address) hosts.now }
-{
-    for row in hosts {
-        if row.address == address {
-            return Some(*row);
-        }
-    }
-    None
-}
-
 /// Appends the addresses of a partition's hosts, one of them left out.
 fn push_addresses(
     found: &mut Vec<u8>,
@@ -133,7 +131,7 @@ impl Roster {
             levels: Vec::new(alloc),
             keys: Vec::new(alloc),
             guard: None,
-            hosts: Vec::new(alloc),
+            hosts: Hosts::new(alloc),
         }
     }
 
@@ -208,10 +206,10 @@ impl Roster {
         requires partition { partition.0 < length self.old.levels }
         ensures { AddsHost self.old self.new address partition result }
     {
-        if row_of(&self.hosts, address).is_some() {
+        if self.hosts.partition_of(address).is_some() {
             return Err(RosterStop::Twice);
         }
-        if self.hosts.len() >= HOST_LIMIT {
+        if self.hosts.rows().len() >= HOST_LIMIT {
             return Err(RosterStop::Many);
         }
         self.hosts.push(HostRow { address, partition })?;
@@ -252,7 +250,7 @@ impl Roster {
     pub fn host_count(&self) -> u8
         ensures { result ≡ length self.now.hosts }
     {
-        self.hosts.len() as u8
+        self.hosts.rows().len() as u8
     }
 
     /// The i-th host in script order, from 0.
@@ -261,7 +259,7 @@ impl Roster {
         ensures { slice_get self.now.hosts i
             ≡ Some (record { address = result.0; partition = result.1 }) }
     {
-        let row = self.hosts[i as usize];
+        let row = self.hosts.rows()[i as usize];
         (row.address, row.partition)
     }
 
@@ -316,10 +314,7 @@ impl Roster {
         ensures within { IfSome result (λ partition. partition.0 < length self.now.levels) }
     {
         match party {
-            Party::Host(address) => match row_of(&self.hosts, address) {
-                Some(row) => Some(row.partition),
-                None => None,
-            },
+            Party::Host(address) => self.hosts.partition_of(address),
             Party::Manager(partition) => {
                 if (partition.0 as usize) < self.levels.len() {
                     Some(partition)
@@ -365,7 +360,7 @@ impl Roster {
             Party::Manager(_) => None,
         };
         if let Some(partition) = self.partition_of(party) {
-            push_addresses(&mut partners, &self.hosts, partition, but)?;
+            push_addresses(&mut partners, self.hosts.rows(), partition, but)?;
         }
         Ok(partners)
     }

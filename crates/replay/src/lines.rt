@@ -24,7 +24,7 @@ pub fn refused_line(alloc: Global, refusal: Refusal) -> Result<Vec<u8>, AllocErr
 {
     let mut line = Vec::new(alloc);
     line.extend_from_slice(b"refused ".as_slice())?;
-    push_number(alloc, &mut line, refusal.line)?;
+    push_number(&mut line, refusal.line)?;
     line.extend_from_slice(b" ".as_slice())?;
     line.extend_from_slice(reason_word(refusal.reason))?;
     line.extend_from_slice(b"\n".as_slice())?;
@@ -39,13 +39,13 @@ pub fn check_line(alloc: Global, script: &Script) -> Result<Vec<u8>, AllocError>
     let events = script.events().len() as u32;
     let mut line = Vec::new(alloc);
     line.extend_from_slice(b"ok levels ".as_slice())?;
-    push_number(alloc, &mut line, u32::from(roster.level_count()))?;
+    push_number(&mut line, u32::from(roster.level_count()))?;
     line.extend_from_slice(b" hosts ".as_slice())?;
-    push_number(alloc, &mut line, u32::from(roster.host_count()))?;
+    push_number(&mut line, u32::from(roster.host_count()))?;
     line.extend_from_slice(b" store ".as_slice())?;
-    push_number(alloc, &mut line, rows)?;
+    push_number(&mut line, rows)?;
     line.extend_from_slice(b" events ".as_slice())?;
-    push_number(alloc, &mut line, events)?;
+    push_number(&mut line, events)?;
     line.extend_from_slice(b"\n".as_slice())?;
     Ok(line)
 }
@@ -55,7 +55,7 @@ pub fn opened_line(alloc: Global, number: u32) -> Result<Vec<u8>, AllocError>
 {
     let mut line = Vec::new(alloc);
     line.extend_from_slice(b"opened ".as_slice())?;
-    push_number(alloc, &mut line, number)?;
+    push_number(&mut line, number)?;
     line.extend_from_slice(b"\n".as_slice())?;
     Ok(line)
 }
@@ -65,7 +65,7 @@ pub fn apart_line(alloc: Global, place: u32) -> Result<Vec<u8>, AllocError>
 {
     let mut line = Vec::new(alloc);
     line.extend_from_slice(b"apart ".as_slice())?;
-    push_number(alloc, &mut line, place)?;
+    push_number(&mut line, place)?;
     line.extend_from_slice(b"\n".as_slice())?;
     Ok(line)
 }

@@ -142,6 +142,13 @@ fn script_owed<R: Threads, G: Gate + Sync>(
     }
 }
 
+/// Frees an input. Its room is shrunk first: the C library keeps blocks for later, rather than
+/// give them back to the system, up to the size of the largest that was freed.
+pub fn free_input(mut bytes: Vec<u8>) {
+    bytes.clear();
+    bytes.shrink_to(1);
+}
+
 /// What is due for an input that is run.
 fn run_owed<R: Threads, G: Gate + Sync>(
     rt: &R,
@@ -156,7 +163,7 @@ fn run_owed<R: Threads, G: Gate + Sync>(
 {
     match read_script(alloc, &bytes) {
         Ok(script) => {
-            drop(bytes);
+            free_input(bytes);
             script_owed(rt, alloc, shown, script, gate)
         }
         Err(stop) => stop_owed(alloc, stop),

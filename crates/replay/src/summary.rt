@@ -100,9 +100,9 @@ fn push_host_line(
         (record { address = address; partition = partition }) lines.now) }
 {
     out.extend_from_slice(b"host ".as_slice())?;
-    push_number(alloc, out, u32::from(address))?;
+    push_number(out, u32::from(address))?;
     out.extend_from_slice(b" ".as_slice())?;
-    push_party(alloc, out, roster, Party::Manager(partition))?;
+    push_party(out, roster, Party::Manager(partition))?;
     push_counts(alloc, out, lines)
 }
 
@@ -150,14 +150,14 @@ fn push_host_lines(
 }
 
 /// Appends the line of the two numbers of a drill.
-fn push_numbers(alloc: Global, out: &mut Vec<u8>, seed: u32, count: u32) -> Result<(), AllocError>
+fn push_numbers(out: &mut Vec<u8>, seed: u32, count: u32) -> Result<(), AllocError>
     ensures { OnOk result (out.new.items ≡ out.old.items
         ++ line (codes "drill" ∷ decimal seed ∷ decimal count ∷ [])) }
 {
     out.extend_from_slice(b"drill ".as_slice())?;
-    push_number(alloc, out, seed)?;
+    push_number(out, seed)?;
     out.extend_from_slice(b" ".as_slice())?;
-    push_number(alloc, out, count)?;
+    push_number(out, count)?;
     out.extend_from_slice(b"\n".as_slice())
 }
 
@@ -180,7 +180,7 @@ pub fn summary(alloc: Global, seed: u32, count: u32, report: &Report) -> Result<
     let events = report.script().events().len();
     let frames = report.frames().len();
     let mut out = Vec::new(alloc);
-    push_numbers(alloc, &mut out, seed, count)?;
+    push_numbers(&mut out, seed, count)?;
     push_total(alloc, &mut out, b"events".as_slice(), events)?;
     push_total(alloc, &mut out, b"frames".as_slice(), frames)?;
     push_host_lines(alloc, &mut out, report, LAST_ADDRESS)?;

@@ -9,7 +9,7 @@ ghost use Rattle.replay.specs.inside.Owing.{IsOwedFor};
 ghost use Rattle.replay.specs.inside.Reading.{IsOwedForScripts, ReadsTwins, stop_below, HasLine};
 
 use crate::lines::apart_line;
-use crate::owed::{Owed, opened_owed, refusal_owed, run_script, stop_owed};
+use crate::owed::{Owed, free_input, opened_owed, refusal_owed, run_script, stop_owed};
 use crate::print::push_text_below;
 use crate::status::Status;
 use engine::{EngineStop, Report};
@@ -82,7 +82,7 @@ fn line_count(text: &[u8]) -> u32
     count
 }
 
-/// The same, of a text that stands below some lines.
+/// How reading stopped, where its text stands below some lines and these count too.
 fn stop_below(above: u32, stop: ScriptRefused) -> ScriptRefused
     requires above { above ≤ TEXT_LIMIT }
     requires line { HasLine stop }
@@ -121,7 +121,7 @@ fn alike_text(alloc: Global, level: Level, report: &Report) -> Result<Vec<u8>, A
     ensures { IfOk result (λ text. text.items ≡ alike_text level report.now.script) }
 {
     let mut text = Vec::from_slice(alloc, b"alike\n".as_slice())?;
-    push_text_below(alloc, &mut text, report, &level)?;
+    push_text_below(&mut text, report, &level)?;
     Ok(text)
 }
 
@@ -211,7 +211,7 @@ pub fn twins_owed<R: Threads, G: Gate + Sync>(
 {
     match read_twins(alloc, &bytes) {
         Ok(twins) => {
-            drop(bytes);
+            free_input(bytes);
             scripts_owed(rt, alloc, name, twins, gate)
         }
         Err(stop) => stop_owed(alloc, stop),

@@ -15,21 +15,16 @@ use std::alloc::{AllocError, Global};
 /// most ten digits, a piece's of at most two, 256 digits, and the marks between and behind them.
 const LINE_ROOM: usize = 289;
 
-fn push_piece(
-    alloc: Global,
-    out: &mut Vec<u8>,
-    roster: &Roster,
-    row: &FrameRow,
-) -> Result<(), AllocError>
+fn push_piece(out: &mut Vec<u8>, roster: &Roster, row: &FrameRow) -> Result<(), AllocError>
     ensures { OnOk result (out.new.items ≡ out.old.items ++ piece_word roster.now row.now) }
 {
-    push_party(alloc, out, roster, row.stream.from)?;
+    push_party(out, roster, row.stream.from)?;
     out.extend_from_slice(b">".as_slice())?;
-    push_party(alloc, out, roster, row.stream.to)?;
+    push_party(out, roster, row.stream.to)?;
     out.extend_from_slice(b"#".as_slice())?;
-    push_number(alloc, out, row.message)?;
+    push_number(out, row.message)?;
     out.extend_from_slice(b".".as_slice())?;
-    push_number(alloc, out, u32::from(row.piece))
+    push_number(out, u32::from(row.piece))
 }
 
 /// Appends the bytes of a frame in hexadecimal digits.
@@ -43,15 +38,10 @@ fn push_digits(out: &mut Vec<u8>, bytes: &[u8; 128]) -> Result<(), AllocError>
     }
 }
 
-fn push_frame(
-    alloc: Global,
-    out: &mut Vec<u8>,
-    roster: &Roster,
-    row: &FrameRow,
-) -> Result<(), AllocError>
+fn push_frame(out: &mut Vec<u8>, roster: &Roster, row: &FrameRow) -> Result<(), AllocError>
     ensures { OnOk result (out.new.items ≡ out.old.items ++ frame_text roster.now row.now) }
 {
-    push_piece(alloc, out, roster, row)?;
+    push_piece(out, roster, row)?;
     out.extend_from_slice(b" ".as_slice())?;
     push_digits(out, &row.bytes)?;
     out.extend_from_slice(b"\n".as_slice())
@@ -64,7 +54,7 @@ fn frame_lines(alloc: Global, roster: &Roster, frames: &[FrameRow]) -> Result<Ve
     // The room for all lines is taken at once, since there can be millions.
     let mut out = Vec::with_capacity(alloc, frames.len().saturating_mul(LINE_ROOM))?;
     for row in frames {
-        push_frame(alloc, &mut out, roster, row)?;
+        push_frame(&mut out, roster, row)?;
     }
     Ok(out)
 }

@@ -3,6 +3,7 @@ mod Digits
 mod Tools
 mod Numbers
 mod HexWords
+mod Searching
 mod Sized
 mod Letters
 mod Inks
@@ -21,6 +22,7 @@ mod Writing
 mod Outcomes
 mod Found
 mod Strong
+mod Events
 mod Fitting
 mod Standing
 mod Taking

@@ -15,6 +15,7 @@ mod read_call;
 mod read_event;
 mod reading;
 mod refusal;
+mod search;
 mod stage;
 mod words;
 mod write;

@@ -10,12 +10,12 @@ use std::alloc::Global;
 pub fn are_lower_digits(word: &[u8]) -> bool
     ensures { result ≡ list_all is_lower_digit word.now }
 {
+    // No early exit, so that many digits are looked at together.
+    let mut all = true;
     for digit in word {
-        if !digit.is_ascii_digit() && !(*digit >= b'a' && *digit <= b'f') {
-            return false;
-        }
+        all &= digit.is_ascii_digit() || (*digit >= b'a' && *digit <= b'f');
     }
-    true
+    all
 }
 
 /// The bytes of a message that a word spells in hex.

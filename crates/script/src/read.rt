@@ -35,11 +35,10 @@ pub fn read_script(alloc: Global, bytes: &[u8]) -> Result<Script, ScriptRefused>
     let mut rest = bytes;
     let mut line: u32 = 1;
     while let Some((text, behind)) = cut(rest, b'\n') {
-        stage = match stage.step(alloc, text) {
-            Ok(next) => next,
+        match stage.step(alloc, text) {
+            Ok(()) => rest = behind,
             Err(stop) => return Err(at_line(line, stop)),
-        };
-        rest = behind;
+        }
         line += 1;
     }
     match stage.finish(rest) {

@@ -4,8 +4,9 @@ ghost use Rattle.levels.specs.Kept.{IsComplete};
 ghost use Rattle.script.specs.Lines as line;
 ghost use Rattle.script.specs.Ranges.{IsAddress, HasEventRanges, HasRanges};
 ghost use Rattle.script.specs.inside.Readers.{words_meant, action_meant, meant};
-ghost use Rattle.script.specs.inside.Stages.{seen, IsSound, IsKeyed, Takes, TakesBehind, Steps};
-ghost use Rattle.script.specs.inside.Stages.{Finishes};
+ghost use Rattle.script.specs.declared.stage.Stage.TheVariants.{Events};
+ghost use Rattle.script.specs.inside.Stages.{seen, left_by, IsSound, IsKeyed};
+ghost use Rattle.script.specs.inside.Stages.{Takes, TakesBehind, Steps, Finishes};
 
 use crate::line::{EventWords, Line, StoreWords, plan_row};
 use crate::reading::read_line;
@@ -14,6 +15,7 @@ use events::Script;
 use levels::{Level, LevelName, Roster, Sealing};
 use seal_core::KeyPair;
 use std::alloc::Global;
+use std::mem;
 
 /// How far the reading of a text has come, by the kind of its last line.
 #[derive(Debug, Drop)]
@@ -111,16 +113,16 @@ fn start_plan(
     add_row(Script::start(alloc, roster), reader, words)
 }
 
-/// The stage behind a further event line.
+/// Adds the event of a further event line.
 #[tactic(auto, unfolding(crate::specs::Reasons::against))]
-fn add_event(alloc: Global, mut script: Script, words: EventWords) -> Result<Stage, Stop>
+fn add_event(alloc: Global, script: &mut Script, words: EventWords) -> Result<(), Stop>
     requires { HasEventRanges (words_meant words) }
-    ensures { TakesBehind script.roster script.rows script.events
-        (line.Event (words_meant words)) result }
+    ensures { TakesBehind script.old.roster script.old.rows script.old.events
+        (line.Event (words_meant words)) (left_by result (Events script.new)) }
 {
     let event = words.event(alloc, script.roster())?;
     script.add_event(event)?;
-    Ok(Stage::Events(script))
+    Ok(())
 }
 
 impl Stage {
@@ -247,14 +249,29 @@ impl Stage {
         }
     }
 
-    #[tactic(auto, unfolding(crate::specs::Reasons::against))]
-    fn take_event(self, alloc: Global, words: EventWords) -> Result<Stage, Stop>
-        requires { HasEventRanges (words_meant words) }
-        ensures { Takes (seen self) (line.Event (words_meant words)) result }
+    /// The stage, out of its place.
+    fn leave(&mut self) -> Stage
+        ensures { result ≡ self.old }
     {
-        match self {
-            Stage::Begun(script) => add_event(alloc, script, words),
-            Stage::Events(script) => add_event(alloc, script, words),
+        mem::replace(self, Stage::Nothing)
+    }
+
+    /// Takes an event. The script is changed in its place, since most lines are events.
+    #[tactic(auto, unfolding(crate::specs::Reasons::against))]
+    fn take_event(&mut self, alloc: Global, words: EventWords) -> Result<(), Stop>
+        requires { HasEventRanges (words_meant words) }
+        ensures { Takes (seen self.old) (line.Event (words_meant words))
+            (left_by result self.new) }
+    {
+        if let Stage::Events(script) = self {
+            return add_event(alloc, script, words);
+        }
+        match self.leave() {
+            Stage::Begun(mut script) => {
+                let added = add_event(alloc, &mut script, words);
+                *self = Stage::Events(script);
+                added
+            }
             _ => Err(Stop::Refused(Reason::Place)),
         }
     }
@@ -270,29 +287,31 @@ impl Stage {
         }
     }
 
-    fn take(self, alloc: Global, line: Line) -> Result<Stage, Stop>
-        requires sound { IsSound self }
+    fn take(&mut self, alloc: Global, line: Line) -> Result<(), Stop>
+        requires sound { IsSound self.old }
         requires ranges { HasRanges (meant line) }
-        ensures { Takes (seen self) (meant line) result }
+        ensures { Takes (seen self.old) (meant line) (left_by result self.new) }
     {
-        match line {
-            Line::Version => self.take_version(),
-            Line::Seal => self.take_seal(),
-            Line::Level { name, level } => self.take_level(alloc, name, level),
-            Line::Keys { level, pair } => self.take_keys(level, pair),
-            Line::Guard(pair) => self.take_guard(pair),
-            Line::Host { address, level } => self.take_host(address, level),
-            Line::Store { reader, words } => self.take_row(alloc, reader, words),
-            Line::Begin => self.take_begin(alloc),
-            Line::Event(words) => self.take_event(alloc, words),
-            Line::End => self.take_end(),
-        }
+        let next = match line {
+            Line::Event(words) => return self.take_event(alloc, words),
+            Line::Version => self.leave().take_version(),
+            Line::Seal => self.leave().take_seal(),
+            Line::Level { name, level } => self.leave().take_level(alloc, name, level),
+            Line::Keys { level, pair } => self.leave().take_keys(level, pair),
+            Line::Guard(pair) => self.leave().take_guard(pair),
+            Line::Host { address, level } => self.leave().take_host(address, level),
+            Line::Store { reader, words } => self.leave().take_row(alloc, reader, words),
+            Line::Begin => self.leave().take_begin(alloc),
+            Line::End => self.leave().take_end(),
+        };
+        *self = next?;
+        Ok(())
     }
 
-    /// The stage behind one more line.
-    pub fn step(self, alloc: Global, text: &[u8]) -> Result<Stage, Stop>
-        requires { IsSound self }
-        ensures { Steps (seen self) text.now result }
+    /// Goes on by one more line. After an Err the stage isn't used again.
+    pub fn step(&mut self, alloc: Global, text: &[u8]) -> Result<(), Stop>
+        requires { IsSound self.old }
+        ensures { Steps (seen self.old) text.now (left_by result self.new) }
     {
         let line = read_line(alloc, text)?;
         self.take(alloc, line)

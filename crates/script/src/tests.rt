@@ -15,6 +15,7 @@ use untrusted_store::{PlanRow, StoreAction};
 
 mod forms;
 mod keys;
+mod long;
 mod plan;
 
 const HEAD: &str =

@@ -30,19 +30,14 @@ fn write_sealing(text: &mut Vec<u8>, sealing: Sealing) -> Result<(), AllocError>
 }
 
 /// Writes the line of a level.
-fn write_level(
-    alloc: Global,
-    text: &mut Vec<u8>,
-    name: &LevelName,
-    level: Level,
-) -> Result<(), AllocError>
+fn write_level(text: &mut Vec<u8>, name: &LevelName, level: Level) -> Result<(), AllocError>
     ensures { OnOk result
         (text.new.items ≡ text.old.items ++ ended_text (line.Level name.now level)) }
 {
     text.extend_from_slice(b"level ".as_slice())?;
     text.extend_from_slice(name.bytes())?;
     text.push(b' ')?;
-    push_number(alloc, text, u32::from(level.rank))?;
+    push_number(text, u32::from(level.rank))?;
     text.push(b' ')?;
     write_cats(text, level.cats)?;
     text.push(b'\n')?;
@@ -50,46 +45,40 @@ fn write_level(
 }
 
 /// Writes both keys.
-fn write_pair(alloc: Global, text: &mut Vec<u8>, pair: &KeyPair) -> Result<(), AllocError>
+fn write_pair(text: &mut Vec<u8>, pair: &KeyPair) -> Result<(), AllocError>
     ensures { OnOk result (text.new.items ≡
         text.old.items ++ hex_word pair.now.main ++ 32 ∷ hex_word pair.now.check) }
 {
-    push_hex(alloc, text, &pair.main)?;
+    push_hex(text, &pair.main)?;
     text.push(b' ')?;
-    push_hex(alloc, text, &pair.check)
+    push_hex(text, &pair.check)
 }
 
 /// Writes the line of a level's key pair.
-fn write_key(
-    alloc: Global,
-    text: &mut Vec<u8>,
-    name: &LevelName,
-    pair: &KeyPair,
-) -> Result<(), AllocError>
+fn write_key(text: &mut Vec<u8>, name: &LevelName, pair: &KeyPair) -> Result<(), AllocError>
     ensures { OnOk result
         (text.new.items ≡ text.old.items ++ ended_text (line.Key name.now pair.now)) }
 {
     text.extend_from_slice(b"key ".as_slice())?;
     text.extend_from_slice(name.bytes())?;
     text.push(b' ')?;
-    write_pair(alloc, text, pair)?;
+    write_pair(text, pair)?;
     text.push(b'\n')?;
     Ok(())
 }
 
 /// Writes the line of the guarantor's key pair.
-fn write_guard(alloc: Global, text: &mut Vec<u8>, pair: &KeyPair) -> Result<(), AllocError>
+fn write_guard(text: &mut Vec<u8>, pair: &KeyPair) -> Result<(), AllocError>
     ensures { OnOk result (text.new.items ≡ text.old.items ++ ended_text (line.Guard pair.now)) }
 {
     text.extend_from_slice(b"guard ".as_slice())?;
-    write_pair(alloc, text, pair)?;
+    write_pair(text, pair)?;
     text.push(b'\n')?;
     Ok(())
 }
 
 /// Writes the line of a host.
 fn write_host(
-    alloc: Global,
     text: &mut Vec<u8>,
     roster: &Roster,
     address: u8,
@@ -100,7 +89,7 @@ fn write_host(
         ended_text (line.Host address (name_or_none roster.now partition.0))) }
 {
     text.extend_from_slice(b"host ".as_slice())?;
-    push_number(alloc, text, u32::from(address))?;
+    push_number(text, u32::from(address))?;
     text.push(b' ')?;
     write_name(text, roster, partition.0)?;
     text.push(b'\n')?;
@@ -128,9 +117,9 @@ fn write_action(
         }
         StoreAction::Flip { offset, xor } => {
             text.extend_from_slice(b" flip ".as_slice())?;
-            push_number(alloc, text, offset)?;
+            push_number(text, offset)?;
             text.push(b' ')?;
-            write_byte(alloc, text, xor)
+            write_byte(text, xor)
         }
         StoreAction::Gone => text.extend_from_slice(b" gone".as_slice()),
     }
@@ -154,19 +143,19 @@ fn write_row(
     Ok(())
 }
 
-fn write_levels(alloc: Global, text: &mut Vec<u8>, roster: &Roster) -> Result<(), AllocError>
+fn write_levels(text: &mut Vec<u8>, roster: &Roster) -> Result<(), AllocError>
     ensures { OnOk result (text.new.items ≡
         text.old.items ++ flat_map ended_text (map line_of_level roster.now.levels)) }
 {
     for i in 0..roster.level_count() {
         let name = roster.name_at(Partition(i));
-        write_level(alloc, text, &name, roster.level_at(Partition(i)))?;
+        write_level(text, &name, roster.level_at(Partition(i)))?;
     }
     Ok(())
 }
 
 /// Writes the lines of the levels' key pairs.
-fn write_pairs(alloc: Global, text: &mut Vec<u8>, roster: &Roster) -> Result<(), AllocError>
+fn write_pairs(text: &mut Vec<u8>, roster: &Roster) -> Result<(), AllocError>
     requires des { roster.now.sealing ≡ Des }
     requires roster { IsRoster roster.now }
     ensures { OnOk result (text.new.items ≡ text.old.items ++
@@ -174,13 +163,13 @@ fn write_pairs(alloc: Global, text: &mut Vec<u8>, roster: &Roster) -> Result<(),
 {
     for i in 0..roster.key_count() {
         let name = roster.name_at(Partition(i));
-        write_key(alloc, text, &name, &roster.keys_at(Partition(i)))?;
+        write_key(text, &name, &roster.keys_at(Partition(i)))?;
     }
     Ok(())
 }
 
 /// Writes the lines of all key pairs that were added.
-fn write_keys(alloc: Global, text: &mut Vec<u8>, roster: &Roster) -> Result<(), AllocError>
+fn write_keys(text: &mut Vec<u8>, roster: &Roster) -> Result<(), AllocError>
     requires roster { IsRoster roster.now }
     requires complete { IsComplete roster.now }
     ensures { OnOk result (text.new.items ≡
@@ -189,20 +178,20 @@ fn write_keys(alloc: Global, text: &mut Vec<u8>, roster: &Roster) -> Result<(), 
     match roster.sealing() {
         Sealing::Clear => Ok(()),
         Sealing::Des => {
-            write_pairs(alloc, text, roster)?;
-            write_guard(alloc, text, &roster.guard_keys())
+            write_pairs(text, roster)?;
+            write_guard(text, &roster.guard_keys())
         }
     }
 }
 
-fn write_hosts(alloc: Global, text: &mut Vec<u8>, roster: &Roster) -> Result<(), AllocError>
+fn write_hosts(text: &mut Vec<u8>, roster: &Roster) -> Result<(), AllocError>
     requires { IsRoster roster.now }
     ensures { OnOk result (text.new.items ≡
         text.old.items ++ flat_map ended_text (map (line_of_host roster.now) roster.now.hosts)) }
 {
     for i in 0..roster.host_count() {
         let (address, partition) = roster.host_at(i);
-        write_host(alloc, text, roster, address, partition)?;
+        write_host(text, roster, address, partition)?;
     }
     Ok(())
 }
@@ -223,18 +212,13 @@ fn write_rows(
     Ok(())
 }
 
-fn write_events(
-    alloc: Global,
-    text: &mut Vec<u8>,
-    roster: &Roster,
-    events: &[Event],
-) -> Result<(), AllocError>
+fn write_events(text: &mut Vec<u8>, roster: &Roster, events: &[Event]) -> Result<(), AllocError>
     requires { AllByRecursion (λ event. is_named roster.now event ≡ true) events.now }
     ensures { OnOk result (text.new.items ≡
         text.old.items ++ flat_map ended_text (map (line_of_event roster.now) events.now)) }
 {
     for event in events {
-        write_event(alloc, text, roster, event)?;
+        write_event(text, roster, event)?;
     }
     Ok(())
 }
@@ -248,12 +232,12 @@ pub fn write_script(alloc: Global, script: &Script) -> Result<Vec<u8>, AllocErro
     let roster = script.roster();
     text.extend_from_slice(b"dss 1\n".as_slice())?;
     write_sealing(&mut text, roster.sealing())?;
-    write_levels(alloc, &mut text, roster)?;
-    write_keys(alloc, &mut text, roster)?;
-    write_hosts(alloc, &mut text, roster)?;
+    write_levels(&mut text, roster)?;
+    write_keys(&mut text, roster)?;
+    write_hosts(&mut text, roster)?;
     write_rows(alloc, &mut text, roster, script.rows())?;
     text.extend_from_slice(b"begin\n".as_slice())?;
-    write_events(alloc, &mut text, roster, script.events())?;
+    write_events(&mut text, roster, script.events())?;
     text.extend_from_slice(b"end\n".as_slice())?;
     Ok(text)
 }

@@ -20,10 +20,10 @@ pub fn write_wide(alloc: Global, text: &mut Vec<u8>, n: u64) -> Result<(), Alloc
 }
 
 /// Writes two digits.
-pub fn write_byte(alloc: Global, text: &mut Vec<u8>, byte: u8) -> Result<(), AllocError>
+pub fn write_byte(text: &mut Vec<u8>, byte: u8) -> Result<(), AllocError>
     ensures { OnOk result (text.new.items ≡ text.old.items ++ byte_text byte) }
 {
-    push_hex(alloc, text, &[byte])
+    push_hex(text, &[byte])
 }
 
 fn write_letters(text: &mut Vec<u8>, cats: u16) -> Result<(), AllocError>
@@ -70,41 +70,30 @@ fn party_word(roster: &Roster, party: Party) -> PartyWord
     }
 }
 
-pub fn write_party(
-    alloc: Global,
-    text: &mut Vec<u8>,
-    roster: &Roster,
-    party: Party,
-) -> Result<(), AllocError>
+pub fn write_party(text: &mut Vec<u8>, roster: &Roster, party: Party) -> Result<(), AllocError>
     requires { is_known roster.now party ≡ true }
     ensures { OnOk result
         (text.new.items ≡ text.old.items ++ party_text (party_said roster.now party)) }
 {
     match party_word(roster, party) {
-        PartyWord::Address(address) => push_number(alloc, text, u32::from(address)),
+        PartyWord::Address(address) => push_number(text, u32::from(address)),
         PartyWord::Name(level) => text.extend_from_slice(level.bytes()),
     }
 }
 
-fn write_stream(
-    alloc: Global,
-    text: &mut Vec<u8>,
-    roster: &Roster,
-    stream: Stream,
-) -> Result<(), AllocError>
+fn write_stream(text: &mut Vec<u8>, roster: &Roster, stream: Stream) -> Result<(), AllocError>
     requires from { is_known roster.now stream.from ≡ true }
     requires to { is_known roster.now stream.to ≡ true }
     ensures { OnOk result
         (text.new.items ≡ text.old.items ++ stream_text (stream_said roster.now stream)) }
 {
-    write_party(alloc, text, roster, stream.from)?;
+    write_party(text, roster, stream.from)?;
     text.push(b'>')?;
-    write_party(alloc, text, roster, stream.to)
+    write_party(text, roster, stream.to)
 }
 
 /// Writes a message: its stream and its number.
 pub fn write_message(
-    alloc: Global,
     text: &mut Vec<u8>,
     roster: &Roster,
     stream: Stream,
@@ -115,28 +104,22 @@ pub fn write_message(
     ensures { OnOk result (text.new.items ≡
         text.old.items ++ message_text (stream_said roster.now stream, message)) }
 {
-    write_stream(alloc, text, roster, stream)?;
+    write_stream(text, roster, stream)?;
     text.push(b'#')?;
-    push_number(alloc, text, message)
+    push_number(text, message)
 }
 
 /// Writes the number of a message and that of its piece.
-fn write_numbers(
-    alloc: Global,
-    text: &mut Vec<u8>,
-    message: u32,
-    piece: u8,
-) -> Result<(), AllocError>
+fn write_numbers(text: &mut Vec<u8>, message: u32, piece: u8) -> Result<(), AllocError>
     ensures { OnOk result (text.new.items ≡ text.old.items ++ numbers_text (message, piece)) }
 {
-    push_number(alloc, text, message)?;
+    push_number(text, message)?;
     text.push(b'.')?;
-    push_number(alloc, text, u32::from(piece))
+    push_number(text, u32::from(piece))
 }
 
 /// Writes a piece: its stream and its numbers.
 pub fn write_piece(
-    alloc: Global,
     text: &mut Vec<u8>,
     roster: &Roster,
     stream: Stream,
@@ -148,16 +131,16 @@ pub fn write_piece(
     ensures { OnOk result (text.new.items ≡
         text.old.items ++ piece_text (stream_said roster.now stream, (message, piece))) }
 {
-    write_stream(alloc, text, roster, stream)?;
+    write_stream(text, roster, stream)?;
     text.push(b'#')?;
-    write_numbers(alloc, text, message, piece)
+    write_numbers(text, message, piece)
 }
 
 /// Writes an offset and what the byte there is changed by.
-pub fn write_edit(alloc: Global, text: &mut Vec<u8>, offset: u8, xor: u8) -> Result<(), AllocError>
+pub fn write_edit(text: &mut Vec<u8>, offset: u8, xor: u8) -> Result<(), AllocError>
     ensures { OnOk result (text.new.items ≡ text.old.items ++ edit_text (offset, xor)) }
 {
-    push_number(alloc, text, u32::from(offset))?;
+    push_number(text, u32::from(offset))?;
     text.push(b'^')?;
-    write_byte(alloc, text, xor)
+    write_byte(text, xor)
 }

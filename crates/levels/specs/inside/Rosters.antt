@@ -8,5 +8,5 @@ view_of a =
       levels = a.levels.items;
       keys = a.keys.items;
       guard = a.guard;
-      hosts = a.hosts.items;
+      hosts = a.hosts;
     }

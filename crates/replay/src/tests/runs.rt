@@ -26,10 +26,10 @@ impl Pushes {
         }
     }
 
-    /// The pushes of both sides.
-    pub fn all(&self) -> u64 {
-        let net = self.net.load(Ordering::SeqCst);
-        self.host.load(Ordering::SeqCst).saturating_add(net)
+    /// How often the hosts' sides pushed, and how often the networks' sides.
+    pub fn counted(&self) -> (u64, u64) {
+        let host = self.host.load(Ordering::SeqCst);
+        (host, self.net.load(Ordering::SeqCst))
     }
 }
 
@@ -68,8 +68,7 @@ fn kept_of<R: Threads + Abort, G: Gate + Sync>(
 fn both_sides_of_units_push(rt: HostRuntime) -> Result<(), Fail> {
     let gate = Pushes::new();
     let _report = kept_of(&rt, rt.alloc(), "replay", [HEAD, FIRST], &gate)?;
-    assert!(rt; gate.host.load(Ordering::SeqCst) > 0);
-    assert!(rt; gate.net.load(Ordering::SeqCst) > 0);
+    assert_eq!(rt; gate.counted(), (1, 1));
     Ok(())
 }
 

@@ -124,7 +124,8 @@ fn both_scripts_are_run(rt: HostRuntime) -> Result<(), Fail> {
     let mut kept = None;
     let answer = run(&rt, alloc, &words, &mut source, &mut sink, &gate, &mut kept);
     assert_eq!(rt; answer, Status::Fine);
-    assert!(rt; gate.all() > 2);
+    // Three messages are sent, of which one comes in each script.
+    assert_eq!(rt; gate.counted(), (3, 2));
     assert!(rt; kept.is_none());
     Ok(())
 }

@@ -139,6 +139,11 @@ after so_far line' = record {
   ended = so_far.ended || is_end line';
 }
 
+-- what is left where a stage is changed in its place
+abbrev pub left_by : Result (Unit {0}) Stop → Stage → Result Stage Stop
+left_by (Ok done) new = Ok new
+left_by (Err why) new = Err why
+
 -- A line is taken where nothing is against it; else it is refused for the first reason.
 abbrev pub Takes : Facts → Line → Result Stage Stop → Type 0
 Takes so_far line' (Ok new) =

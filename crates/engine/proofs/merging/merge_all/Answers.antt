@@ -8,7 +8,7 @@ pub merge_rows-requires-clause-none : goal.merge_rows-requires-clause-none
 merge_rows-requires-clause-none c =
     let taken = c.deref_mut.result.now in
     let counts = c.deref_mut-2.result.now in
-    subst (IsMerged c.args.wires.now [] taken counts) (sym c.new-frames.ensures.items)
+    subst (IsMerged c.args.wires.now [] taken counts) (sym c.in_ok-frames.ensures.items)
     (merges_none c.args.wires.now taken counts
     (ap length c.deref_mut.ensures.value ∙ c.in_ok-taken.ensures.length)
     (ap length c.deref_mut-2.ensures.value ∙ c.in_ok-counts.ensures.length)

@@ -6,7 +6,7 @@ use Rattle.replay.proofs.print.text_to.Goals as goal
 
 pub loop-address-init : goal.loop-address-init
 loop-address-init c = let script = c.args.report.now.script in
-    c.new-out.ensures.items ∙ sym (at_first (due_to script) script.roster)
+    c.in_ok-out.ensures.items ∙ sym (at_first (due_to script) script.roster)
 
 pub loop-address-preserved : goal.loop-address-preserved
 loop-address-preserved c = let script = c.args.report.now.script in

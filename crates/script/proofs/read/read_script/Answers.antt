@@ -17,7 +17,7 @@ pub loop-text-preserved : goal.loop-text-preserved
 loop-text-preserved c = record {
   reached = goes_on_by c.args.bytes.now c.loop-text.line c.loop-text.rest.now c.in-Some.behind.now
       c.in-Some.text.now
-      (seen c.loop-text.stage) c.in-Ok.next c.loop-text.invariant.one c.loop-text.invariant.reached
+      (seen c.loop-text.stage) c.step.new.self c.loop-text.invariant.one c.loop-text.invariant.reached
       c.in-Some.ensures.parts c.in-Ok.ensures;
   sound = c.in-Ok.ensures.4;
   counted = omega (arith, c.in-Some.ensures.shorter, c.loop-text.invariant.counted);

@@ -4,9 +4,9 @@ use Rattle.desk.proofs.wire.Wire.new.Goals as goal
 
 pub invariant_of-result : goal.invariant_of-result
 invariant_of-result c =
-    nothing_sealed (kept_of (record { frames = c.new.result; runs = c.in_ok-runs.runs })) c.in_ok-runs.ensures
+    nothing_sealed (kept_of (record { frames = c.in_ok-frames.frames; runs = c.in_ok-runs.runs })) c.in_ok-runs.ensures
 
 pub returns : goal.returns
 returns c =
-    none_shown (kept_of (record { frames = c.new.result; runs = c.in_ok-runs.runs })) c.new.ensures.items
-    c.in_ok-runs.ensures
+    none_shown (kept_of (record { frames = c.in_ok-frames.frames; runs = c.in_ok-runs.runs }))
+    c.in_ok-frames.ensures.items c.in_ok-runs.ensures
