@@ -1,0 +1,3 @@
+pub mod PoolView
+pub mod Pools
+pub mod inside
