@@ -1,7 +1,6 @@
 -- The loops over the blocks of a text.
-use Rattle.std.proofs.Common.{◌≡◌, ℕ, ◌+◌, ◌-◌, ◌*◌, ◌/◌, ◌<◌, ◌≤◌, Bool, List, [], ◌∷◌, ◌++◌, map, length, take, drop, bit_xor, refl, sym, ap, ◌∙◌, arith, append_assoc, append-nil, take_all}
-use Rattle.seal_core.specs.Blocks.{first_blocks}
-use Rattle.seal_core.proofs.Checks.{next_block, no_blocks, all_blocks}
+use Rattle.std.proofs.Common.{◌≡◌, ℕ, suc, ◌+◌, ◌-◌, ◌*◌, ◌/◌, ◌<◌, ◌≤◌, Bool, List, [], ◌∷◌, ◌++◌, map, length, take, drop, bit_xor, refl, sym, ap, ap₂, ◌∙◌, arith, append_assoc, append-nil, take_all, drop-drop}
+use Rattle.seal_core.specs.Blocks.{first_blocks, blocks}
 use Rattle.des_cbc.specs.Tables.{initial}
 use Rattle.des_cbc.specs.inside.Words.{unpermuted}
 use Rattle.des_cbc.specs.Bits.{bits, xor_bits, permute, block_bits, block_bytes, text_bits, text_bytes}
@@ -11,6 +10,29 @@ use Rattle.des_cbc.proofs.Additive.{bits-bit_xor}
 use Rattle.des_cbc.proofs.RoundWalk.{unpermuted_is, unpermuted-xor}
 
 -- the blocks from the i-th of n on
+next_block : (text : List ℕ) (i n : ℕ) → i < n
+    → first_blocks (n - i) (drop (8 * i) text) ≡ take 8 (drop (8 * i) text)
+    ∷ first_blocks (n - (i + 1)) (drop (8 * (i + 1)) text)
+unfolding first_blocks
+next_block text i n h =
+    let left : n - i ≡ suc (n - (i + 1)) = omega arith in
+    let end : 8 * (i + 1) ≡ 8 * i + 8 = omega arith in
+    let rest : drop 8 (drop (8 * i) text) ≡ drop (8 * (i + 1)) text = drop-drop 8 (8 * i) text
+    ∙ ap (λ (k : ℕ). drop k text) (sym end) in
+    ap (λ (k : ℕ). first_blocks k (drop (8 * i) text)) left
+    ∙ ap (λ (t : List ℕ). take 8 (drop (8 * i) text) ∷ first_blocks (n - (i + 1)) t) rest
+
+no_blocks : (text : List ℕ) (i n : ℕ) → i ≡ n → first_blocks (n - i) (drop (8 * i) text) ≡ []
+unfolding first_blocks
+no_blocks text i n h =
+    let none : n - i ≡ 0 = omega arith in
+    ap (λ (k : ℕ). first_blocks k (drop (8 * i) text)) none
+
+all_blocks : (text : List ℕ) (n i : ℕ) → n ≡ length text / 8 → i ≡ 0 → first_blocks n (drop i text) ≡ blocks text
+unfolding blocks
+all_blocks text n i h k = ap₂ (λ (m j : ℕ). first_blocks m (drop j text)) h k
+
+-- the bits of the blocks from the i-th of n on
 abbrev pub rest_bits : List ℕ → ℕ → ℕ → List (List Bool)
 rest_bits text n i = map block_bits (first_blocks (n - i) (drop (8 * i) text))
 

@@ -3,36 +3,20 @@ ghost use Rattle.seal_core.specs.Blocks.{block_word};
 ghost use Rattle.seal_core.specs.Clear.{clear_check, clear_text};
 ghost use Rattle.seal_core.specs.ClearLaws.{clear_laws};
 
-use crate::{KeyPair, Nonce, Seal};
+use crate::{KeyPair, Nonce, Seal, is_same_block};
 
 /// A sealing that hides and protects nothing, for scripts and tests: the check block is the
 /// exclusive or of the nonce, the plain text's blocks and the check key.
 #[derive(Clone, Copy, Debug, PartialEq, Eq)]
 pub struct ClearSeal;
 
-/// The block at this place as a number, its first byte first.
-fn word_at(text: &[u8], at: usize) -> u64
-    requires { at + 8 ≤ length text.now }
-    ensures { result ≡ block_word (take 8 (drop at text.now)) }
-{
-    u64::from_be_bytes([
-        text[at],
-        text[at + 1],
-        text[at + 2],
-        text[at + 3],
-        text[at + 4],
-        text[at + 5],
-        text[at + 6],
-        text[at + 7],
-    ])
-}
-
 fn check_block(key: &[u8; 8], nonce: &Nonce, plain: &[u8]) -> [u8; 8]
     ensures { result ≡ clear_check key.now nonce.now plain.now }
 {
     let mut sum = u64::from_be_bytes(*key) ^ u64::from_be_bytes(*nonce);
-    for i in 0..plain.len() / 8 {
-        sum ^= word_at(plain, 8 * i);
+    let (blocks, _) = plain.as_chunks::<8>();
+    for block in blocks {
+        sum ^= u64::from_be_bytes(*block);
     }
     sum.to_be_bytes()
 }
@@ -55,7 +39,9 @@ impl Seal for ClearSeal {
         nonce.copy_from_slice(&sealed[..8]);
         plain.copy_from_slice(&sealed[8..end]);
         let check = check_block(&keys.check, &nonce, plain);
-        if sealed[end..] == check[..] {
+        let mut last = [0; 8];
+        last.copy_from_slice(&sealed[end..]);
+        if is_same_block(&last, &check) {
             return Some(nonce);
         }
         plain.fill(0);

@@ -1,7 +1,7 @@
 //! Sealing: one sealed text for each key pair, nonce and plain text.
 #![tactic(auto)]
 
-ghost use Rattle.std.specs.Prelude.{◌≡◌, ℕ, ◌+◌, ◌%◌, ◌<◌, List, length, replicate, IfSome, IfNone, Some};
+ghost use Rattle.std.specs.Prelude.{◌≡◌, ℕ, ◌+◌, ◌%◌, ◌<◌, ◌↔◌, IsTrue, List, length, replicate, IfSome, IfNone, Some};
 ghost use Rattle.seal_core.specs.Sealing.{Sealer, OpensTo, IsSealing};
 
 mod clear;
@@ -10,6 +10,13 @@ pub use clear::ClearSeal;
 
 /// A number that is used for one sealed text.
 pub type Nonce = [u8; 8];
+
+/// Whether two blocks are one.
+pub fn is_same_block(a: &[u8; 8], b: &[u8; 8]) -> bool
+    ensures { IsTrue result ↔ (a.now ≡ b.now) }
+{
+    u64::from_be_bytes(*a) == u64::from_be_bytes(*b)
+}
 
 /// The two keys of a partition: one for the text and one for its check block.
 #[derive(Clone, Copy, Debug, PartialEq, Eq)]
