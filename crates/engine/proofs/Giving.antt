@@ -1,14 +1,15 @@
 -- When pieces that were cut from messages give them.
-use Rattle.std.proofs.Common.{◌≡◌, ℕ, zero, suc, ◌+◌, ◌-◌, ◌*◌, ◌<◌, ◌≤◌, List, [], ◌∷◌, ◌++◌, ◌&&◌, ◌||◌, length, Bool, true, false, Option, Some, None, refl, sym, ◌∙◌, ap, ◌⊎◌, inl, inr, arith}
+use Rattle.std.proofs.Common.{◌≡◌, ℕ, zero, suc, ◌+◌, ◌-◌, ◌*◌, ◌<◌, ◌≤◌, List, [], ◌∷◌, ◌++◌, ◌&&◌, ◌||◌, length, Bool, true, false, Option, Some, None, refl, sym, ◌∙◌, ap, append-nil, ◌⊎◌, inl, inr, arith}
 use Rattle.std.specs.Prelude.{if◌then◌else◌, slice_get, ◌==◌, nat_lt, not, unwrap_or}
 use Rattle.std.specs.List.{list_any, list_all, range_with_len, flat_map, AllByRecursion}
 use Rattle.std.proofs.lemmas.Bool.Decides.{nat_tests}
 use Rattle.std.proofs.lemmas.Option.{same_Some}
 use Rattle.frame.specs.Pieces.{PieceView, piece_count, pieces, piece_bytes, used_bytes}
 use Rattle.window.specs.ListRule as list
-use Rattle.window.specs.ListRule.{or_else, last_of, is_at, is_held, is_whole, bytes_at, places_to, body, completes}
-use Rattle.machine.specs.Given.{has_piece, has_all, has_later}
-use Rattle.engine.specs.Genuine.{IsPieceOf, AreGenuine}
+use Rattle.window.specs.ListRule.{or_else, last_of, is_at, is_held, is_whole, bytes_at, places_to, body, given_in, completes}
+use Rattle.frame.specs.Ahead.{messages_ahead}
+use Rattle.machine.specs.Given.{has_piece, has_all, has_later, is_given}
+use Rattle.engine.specs.Genuine.{IsPieceOf, HaveArrived, AreGenuine}
 use Rattle.engine.specs.inside.Facts.{PiecesHold}
 use Rattle.engine.proofs.Cases.{bool_cases}
 
@@ -38,20 +39,23 @@ still_pieces messages more (x ∷ h) all =
 
 -- later messages leave the pieces as they are
 pub more_sent : (messages more : List (List ℕ)) (h : List PieceView) (arrived : List (ℕ × ℕ))
-    → AreGenuine messages h arrived
-    → AreGenuine (messages ++ more) h arrived
-more_sent messages more h arrived g = record {
-  pieces = still_pieces messages more h g.pieces;
-  same = g.same;
-  later = g.later;
+    (numbers : List ℕ) → AreGenuine messages h arrived numbers
+    → AreGenuine (messages ++ more) h arrived numbers
+more_sent messages more h arrived numbers g = record {
+  come = record {
+    pieces = still_pieces messages more h g.come.pieces;
+    same = g.come.same;
+    later = g.come.later;
+  };
+  given = g.given;
 }
 
 -- what has arrived counts as a set
 pub same_arrived : (messages : List (List ℕ)) (h : List PieceView) (arrived arrived' : List (ℕ × ℕ))
-    → AreGenuine messages h arrived →
+    → HaveArrived messages h arrived →
     ((j i : ℕ) → has_piece arrived' j i ≡ has_piece arrived j i) →
     ((j : ℕ) → has_later arrived' j ≡ has_later arrived j) →
-    AreGenuine messages h arrived'
+    HaveArrived messages h arrived'
 same_arrived messages h arrived arrived' g same later = record {
   pieces = g.pieces;
   same = λ j i. same j i ∙ g.same j i;
@@ -59,20 +63,23 @@ same_arrived messages h arrived arrived' g same later = record {
 }
 
 pub one_more : (messages : List (List ℕ)) (h : List PieceView) (arrived : List (ℕ × ℕ))
-    (x : PieceView) → AreGenuine messages h arrived
+    (x : PieceView) → HaveArrived messages h arrived
     → IsPieceOf messages x →
-    AreGenuine messages (x ∷ h) ((x.message, x.piece) ∷ arrived)
+    HaveArrived messages (x ∷ h) ((x.message, x.piece) ∷ arrived)
 one_more messages h arrived x g p = record {
   pieces = (p, g.pieces);
   same = λ j i. ap (λ b. (x.message == j && x.piece == i) || b) (g.same j i);
   later = λ j. ap (λ b. nat_lt j x.message || b) (g.later j);
 }
 
-pub none_yet : (messages : List (List ℕ)) → AreGenuine messages [] []
+pub none_yet : (messages : List (List ℕ)) → AreGenuine messages [] [] []
 none_yet messages = record {
-  pieces = tt;
-  same = λ j i. refl;
-  later = λ j. refl;
+  come = record {
+    pieces = tt;
+    same = λ j i. refl;
+    later = λ j. refl;
+  };
+  given = λ j. refl;
 }
 
 pub hold : ((message : List ℕ) (n : ℕ) → length message ≤ 88 * n
@@ -141,7 +148,7 @@ held_where messages (x ∷ h) j m i all is =
     place_alike true false c r s last same = same
     place_alike false b c r s last same = same
 
-all_alike : (P Q : ℕ → Bool) (xs : List ℕ) → ((i : ℕ) → P i ≡ Q i) → list_all P xs ≡ list_all Q xs
+pub all_alike : (P Q : ℕ → Bool) (xs : List ℕ) → ((i : ℕ) → P i ≡ Q i) → list_all P xs ≡ list_all Q xs
 all_alike P Q [] same = refl
 all_alike P Q (x ∷ xs) same = grind (arith, same x, all_alike P Q xs same)
 
@@ -152,7 +159,7 @@ one_at_least n = omega arith
 -- a message is whole where all its pieces have arrived
 pub whole_when : (messages : List (List ℕ)) (h : List PieceView) (arrived : List (ℕ × ℕ)) (j : ℕ)
     (m : List ℕ) →
-    AreGenuine messages h arrived → slice_get messages j ≡ Some m →
+    HaveArrived messages h arrived → slice_get messages j ≡ Some m →
     is_whole h j ≡ has_all (Some m) arrived j
 whole_when messages h arrived j m g is =
     elim (last_known messages h j m g.pieces is) [
@@ -207,7 +214,7 @@ joined_alike f g P (x ∷ xs) same all = grind (arith, nat_tests, same x, joined
 -- a message that is whole is the one that was cut
 pub body_when : (messages : List (List ℕ)) (h : List PieceView) (arrived : List (ℕ × ℕ)) (j : ℕ)
     (m : List ℕ) →
-    PiecesHold → AreGenuine messages h arrived → slice_get messages j ≡ Some m →
+    PiecesHold → HaveArrived messages h arrived → slice_get messages j ≡ Some m →
     is_whole h j ≡ true → body h j ≡ m
 body_when messages h arrived j m hold g is whole =
     elim (last_known messages h j m g.pieces is) [
@@ -223,35 +230,89 @@ body_when messages h arrived j m hold g is whole =
       | inr none ↦ (let none_there = none.0 in let never = rw none_there at whole in cc)
     ]
 
--- whether a message is given, where nothing is given behind the newest one
-abbrev pub is_new : List ℕ → List (ℕ × ℕ) → List (ℕ × ℕ) → ℕ → Bool
-is_new m before now j =
-    has_all (Some m) now j && not (has_all (Some m) before j) && not (has_later before j)
+-- whether message j, which is m, is given, where these numbers were given
+abbrev pub is_new : List ℕ → List (ℕ × ℕ) → List (ℕ × ℕ) → List ℕ → ℕ → Bool
+is_new m before now numbers j = is_given messages_ahead (Some m) before now numbers j
 
 -- the pieces that came give what is to be given
 pub completes_when : (messages : List (List ℕ)) (h : List PieceView) (before now : List (ℕ × ℕ))
-    (x : PieceView) (m : List ℕ) →
-    AreGenuine messages h before → AreGenuine messages (x ∷ h) now
+    (numbers : List ℕ) (x : PieceView) (m : List ℕ) →
+    AreGenuine messages h before numbers → HaveArrived messages (x ∷ h) now
     → slice_get messages x.message ≡ Some m →
-    completes h x ≡ is_new m before now x.message
-completes_when messages h before now x m g g' is =
-    let whole_now = whole_when messages (x ∷ h) now x.message m g' is in
-    let whole_before = whole_when messages h before x.message m g is in
-    let later = g.later x.message in
-    ap (λ b. b && not (is_whole h x.message) && not (list.has_newer h x.message)) whole_now
-    ∙ ap (λ b. has_all (Some m) now x.message && not b && not (list.has_newer h x.message))
-    whole_before
-    ∙ ap (λ b. has_all (Some m) now x.message && not (has_all (Some m) before x.message) && not b)
-    (sym later)
+    completes h x ≡ is_new m before now numbers x.message
+completes_when messages h before now numbers x m g come is =
+    let j = x.message in
+    let whole_now = whole_when messages (x ∷ h) now j m come is in
+    let whole_before = whole_when messages h before j m g.come is in
+    let later = g.come.later (j + messages_ahead) in
+    let given = g.given j in
+    ap (λ b. b && not (is_whole h j) && not (list.has_newer h (j + messages_ahead))
+    && not (list_any (nat_lt j) (given_in h))) whole_now
+    ∙ ap (λ b. has_all (Some m) now j && not b && not (list.has_newer h (j + messages_ahead))
+    && not (list_any (nat_lt j) (given_in h))) whole_before
+    ∙ ap (λ b. has_all (Some m) now j && not (has_all (Some m) before j) && not b
+    && not (list_any (nat_lt j) (given_in h))) (sym later)
+    ∙ ap (λ b. has_all (Some m) now j && not (has_all (Some m) before j)
+    && not (has_later before (j + messages_ahead)) && not b) (sym given)
 
 -- and the message that was cut
 pub body_if : (messages : List (List ℕ)) (h : List PieceView) (now : List (ℕ × ℕ)) (x : PieceView)
-    (m : List ℕ) → PiecesHold → AreGenuine messages (x ∷ h) now
+    (m : List ℕ) → PiecesHold → HaveArrived messages (x ∷ h) now
     → slice_get messages x.message ≡ Some m → completes h x ≡ true → body (x ∷ h) x.message ≡ m
-body_if messages h now x m hold g' is done =
-    body_when messages (x ∷ h) now x.message m hold g' is
+body_if messages h now x m hold come is done =
+    body_when messages (x ∷ h) now x.message m hold come is
     (and_left (is_whole (x ∷ h) x.message) (not (is_whole h x.message))
-    (not (list.has_newer h x.message)) done)
+    (not (list.has_newer h (x.message + messages_ahead)))
+    (not (list_any (nat_lt x.message) (given_in h))) done)
   where
-    and_left : (a b c : Bool) → (a && b && c) ≡ true → a ≡ true
-    and_left a b c all = grind (arith, nat_tests)
+    and_left : (a b c d : Bool) → (a && b && c && d) ≡ true → a ≡ true
+    and_left true b c d all = refl
+    and_left false b c d all = all
+
+-- the number of a message, if it is given
+abbrev pub number_if : Bool → ℕ → List ℕ
+number_if given j = if given then j ∷ [] else []
+
+pub swapped : (a b c : Bool) → (a || (b || c)) ≡ (b || (a || c))
+swapped true true c = refl
+swapped true false c = refl
+swapped false b c = refl
+
+-- the numbers that were given count as a set
+any_numbers : (f : ℕ → Bool) (xs ys : List ℕ)
+    → list_any f (xs ++ ys) ≡ (list_any f ys || list_any f xs)
+any_numbers f [] ys = or_false (list_any f ys) where
+  or_false : (b : Bool) → b ≡ (b || false)
+  or_false true = refl
+  or_false false = refl
+any_numbers f (x ∷ xs) ys =
+    ap (λ b. f x || b) (any_numbers f xs ys) ∙ swapped (f x) (list_any f ys) (list_any f xs)
+
+number_more : (f : ℕ → Bool) (numbers given : List ℕ) (j : ℕ) (b : Bool)
+    → list_any f numbers ≡ list_any f given
+    → list_any f (numbers ++ number_if b j) ≡ list_any f (if b then j ∷ given else given)
+number_more f numbers given j true same =
+    any_numbers f numbers (j ∷ []) ∙ only (f j) (list_any f numbers)
+    ∙ ap (λ b. f j || b) same
+  where
+    only : (a b : Bool) → ((a || false) || b) ≡ (a || b)
+    only true b = refl
+    only false b = refl
+number_more f numbers given j false same = ap (list_any f) (append-nil numbers) ∙ same
+
+-- one piece more, and the message that it gives
+pub one_genuine : (messages : List (List ℕ)) (h : List PieceView) (arrived : List (ℕ × ℕ))
+    (numbers : List ℕ) (x : PieceView) (m : List ℕ) → AreGenuine messages h arrived numbers
+    → IsPieceOf messages x → slice_get messages x.message ≡ Some m
+    → (let now = (x.message, x.piece) ∷ arrived in
+    AreGenuine messages (x ∷ h) now
+    (numbers ++ number_if (is_new m arrived now numbers x.message) x.message))
+one_genuine messages h arrived numbers x m g p is =
+    let now = (x.message, x.piece) ∷ arrived in
+    let come = one_more messages h arrived x g.come p in
+    let done = completes_when messages h arrived now numbers x m g come is in
+    record {
+      come = come;
+      given = λ k. ap (λ b. list_any (nat_lt k) (numbers ++ number_if b x.message)) (sym done)
+          ∙ number_more (nat_lt k) numbers (given_in h) x.message (completes h x) (g.given k);
+    }

@@ -123,12 +123,12 @@ own_come laws m past net e lines sent s u j body places ws st fits is there only
     ap (λ vs. does st (hearings (map (piece_frame m s u j body) places) vs)) hold_ws
     ∙ hears_pieces a (address_of u) (partition_number m s) j body (piece_frame m s u j body) places
     st in
-    let genuine : AreGenuine (x.sent s u) (st.heard a) (x.arrived s u) =
-    subst (λ p. AreGenuine (x.sent p u) (st.heard a) (x.arrived p u)) at_s
+    let genuine : AreGenuine (x.sent s u) (st.heard a) (x.arrived s u) (x.given s u) =
+    subst (λ p. AreGenuine (x.sent p u) (st.heard a) (x.arrived p u) (x.given p u)) at_s
     (stands.genuine a (laws.address m.roster s fits.roster known.0)
     (ap (is_partner m.roster u) at_s ∙ back)) in
     let some = heard_some (x.sent s u) a (address_of u) (partition_number m s) j body
-    (places_of m e s u j body) (x.arrived s u) st laws.carries laws.hold there
+    (places_of m e s u j body) (x.arrived s u) (x.given s u) st laws.carries laws.hold there
     (subst (AllByRecursion (λ i. i < pieces body)) (sym placed) within) genuine in
     subst (Heard m x e lines sent u)
     (ap (heard_pieces a (address_of u) (partition_number m s) j body st) placed ∙ sym hears)

@@ -208,7 +208,7 @@ accepted_state m x lines sent u to send st below seen partner frames s =
           let r = peer m u b in
           more_sent (x.sent r u)
           (if is_same_party u r && is_same_party to u then send.message ∷ [] else [])
-          (st.heard b) (x.arrived r u) (s.genuine b lt partners);
+          (st.heard b) (x.arrived r u) (x.given r u) (s.genuine b lt partners);
     }
 
 -- an accepted message has the next number of its stream, and its frames are sealed
@@ -264,6 +264,9 @@ as_state m x y lines sent u st own to_it arrived given s = record {
       (λ r. sym (given r)));
   genuine = λ a lt partners.
       let r = peer m u a in
-      subst (λ messages. AreGenuine messages (st.heard a) (y.arrived r u)) (sym (to_it r))
-      (subst (AreGenuine (x.sent r u) (st.heard a)) (sym (arrived r)) (s.genuine a lt partners));
+      subst (λ messages. AreGenuine messages (st.heard a) (y.arrived r u) (y.given r u))
+      (sym (to_it r))
+      (subst (λ pairs. AreGenuine (x.sent r u) (st.heard a) pairs (y.given r u)) (sym (arrived r))
+      (subst (AreGenuine (x.sent r u) (st.heard a) (x.arrived r u)) (sym (given r))
+      (s.genuine a lt partners)));
 }

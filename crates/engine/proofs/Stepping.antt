@@ -61,9 +61,12 @@ state_on m x y lines sent u st own to arrived given is = record {
   genuine = λ a lt partners.
       (let s = peer m u a in
       let grown = to s in
-      subst (AreGenuine (y.sent s u) (st.heard a)) (sym (arrived s))
-      (subst (λ messages. AreGenuine messages (st.heard a) (x.arrived s u)) (sym grown.1)
-      (more_sent (x.sent s u) grown.0 (st.heard a) (x.arrived s u) (is.genuine a lt partners))));
+      subst (AreGenuine (y.sent s u) (st.heard a) (y.arrived s u)) (sym (given s))
+      (subst (λ pairs. AreGenuine (y.sent s u) (st.heard a) pairs (x.given s u)) (sym (arrived s))
+      (subst (λ messages. AreGenuine messages (st.heard a) (x.arrived s u) (x.given s u))
+      (sym grown.1)
+      (more_sent (x.sent s u) grown.0 (st.heard a) (x.arrived s u) (x.given s u)
+      (is.genuine a lt partners)))));
 }
 
 pub told_as : (m : Setup) (x : State) (lines lines' : List OutLine) (sent sent' : List (List ℕ))

@@ -53,6 +53,7 @@ pub record StateIs (m : Setup) (x : State) (lines : List OutLine) (sent : List (
   pub given : st.given ≡ length (given_at m.roster x u)
   pub genuine : (a : ℕ) → a < 256 → is_partner m.roster u (peer m u a) ≡ true
       → AreGenuine (x.sent (peer m u a) u) (st.heard a) (x.arrived (peer m u a) u)
+      (x.given (peer m u a) u)
 
 -- a manager unit's lines are not kept
 abbrev pub kept_lines : Party → List OutLine → List OutLine

@@ -1,3 +1,4 @@
 pub mod Pieces
 pub mod Frames
+pub mod Ahead
 pub mod inside

@@ -1,4 +1,4 @@
-ghost use Rattle.std.specs.Prelude.{◌≡◌, ◌<◌, ◌≤◌, ◌↔◌, IsTrue, Some, length, replicate};
+ghost use Rattle.std.specs.Prelude.{◌≡◌, ◌<◌, ◌≤◌, ◌↔◌, IsTrue, Some, length, take, drop, replicate};
 ghost use Rattle.frame.specs.Pieces.{PieceView, piece_count, piece_bytes, padded, piece_of, IsPiece};
 ghost use Rattle.frame.specs.Frames.{plain_of, Spells};
 ghost use Rattle.frame.specs.inside.Rules.{Fits, KeepsRules};
@@ -13,6 +13,9 @@ pub const PIECE_SIZE: usize = 88;
 
 /// How many bytes of a plain text stand before the payload.
 const FIELDS: usize = 16;
+
+/// As many zeros as a plain text has bytes.
+const ZEROS: [u8; 104] = [0; 104];
 
 /// A part of a message, as it goes from a sender to a receiver of one partition.
 #[derive(Clone, Copy, Debug, PartialEq, Eq)]
@@ -195,9 +198,17 @@ fn fits(place: u8, last: u8, used: u8) -> bool
 }
 
 fn are_zeros(bytes: &[u8]) -> bool
+    requires { length bytes.now ≤ 104 }
     ensures { IsTrue result ↔ (bytes.now ≡ replicate (length bytes.now) 0) }
 {
-    bytes.iter().all(|byte| *byte == 0)
+    bytes == &ZEROS[..bytes.len()]
+}
+
+/// Whether no byte between the fields and the payload says anything.
+fn is_unused(plain: &[u8; 104]) -> bool
+    ensures { IsTrue result ↔ (take 6 (drop 10 plain.now) ≡ replicate 6 0) }
+{
+    matches!(&plain[10..FIELDS], [0, 0, 0, 0, 0, 0])
 }
 
 /// Whether a plain text keeps the rules of a piece.
@@ -206,7 +217,7 @@ fn keeps_rules(plain: &[u8; 104]) -> bool
 {
     let used = plain[8];
     fits(plain[6], plain[7], used)
-        && are_zeros(&plain[10..FIELDS])
+        && is_unused(plain)
         && are_zeros(&plain[FIELDS + usize::from(used)..])
 }
 

@@ -4,7 +4,7 @@ ghost use Rattle.frame.specs.Frames.{header, nonce_of, frame_of, IsFrame, HasHea
 ghost use Rattle.frame.specs.inside.Openings.{PartHolds};
 
 use crate::piece::{Piece, read_plain, write_plain};
-use seal_core::{KeyPair, Nonce, Seal};
+use seal_core::{KeyPair, Nonce, Seal, is_same_block};
 
 /// How many bytes of a frame stand before its sealed part.
 const HEADER: usize = 8;
@@ -35,12 +35,6 @@ fn nonce_of(plain: &[u8; 104]) -> Nonce
     nonce
 }
 
-fn is_same(a: &[u8], b: &[u8]) -> bool
-    ensures { IsTrue result ↔ (a.now ≡ b.now) }
-{
-    a == b
-}
-
 /// Writes the frame of a piece, sealed under its partition's keys.
 pub fn seal_frame<S: Seal>(seal: &S, keys: &KeyPair, piece: &Piece, out: &mut [u8; 128])
     ensures { out.new ≡ frame_of S.sealed_text keys.now piece.now }
@@ -60,7 +54,7 @@ fn open_part<S: Seal>(seal: &S, keys: &KeyPair, partition: u8, text: &[u8]) -> O
     let Some(nonce) = seal.open(keys, text, &mut plain) else {
         return Opening::Closed;
     };
-    if !is_same(&nonce, &nonce_of(&plain)) {
+    if !is_same_block(&nonce, &nonce_of(&plain)) {
         return Opening::Malformed;
     }
     match read_plain(&plain) {
@@ -81,7 +75,9 @@ pub fn open_frame<S: Seal>(seal: &S, keys: &KeyPair, partition: u8, bytes: &[u8;
     ensures opened { (x : PieceView) →
         (result ≡ Opening.Opened x) ↔ IsFrame S.sealed_text keys.now partition bytes.now x }
 {
-    if !is_same(&bytes[..HEADER], &header(partition)) {
+    let mut first = [0; HEADER];
+    first.copy_from_slice(&bytes[..HEADER]);
+    if !is_same_block(&first, &header(partition)) {
         return Opening::Foreign;
     }
     open_part(seal, keys, partition, &bytes[HEADER..])

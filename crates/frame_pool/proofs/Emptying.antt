@@ -51,6 +51,17 @@ cut_nothing (suc first) n [] none = refl
 cut_nothing (suc first) n (None ∷ places) none = ap (λ ps. None ∷ ps) (cut_nothing first n places none)
 cut_nothing (suc first) n (Some x ∷ places) none = absurd (omega (arith, none))
 
+cut_rest : {A : Type 0} (first i n : ℕ) (places : List (Option A)) → i ≤ n → held_count (cut first i places) ≡ 0
+    → cut first i places ≡ cut first n places
+cut_rest zero zero n places le none = sym (cut_nothing zero n places none)
+cut_rest zero (suc i) zero places le none = absurd (omega (arith, le))
+cut_rest zero (suc i) (suc n) [] le none = refl
+cut_rest zero (suc i) (suc n) (x ∷ places) le none =
+    ap (λ ps. None ∷ ps) (cut_rest zero i n places (omega (arith, le)) none)
+cut_rest (suc first) i n [] le none = refl
+cut_rest (suc first) i n (None ∷ places) le none = ap (λ ps. None ∷ ps) (cut_rest first i n places le none)
+cut_rest (suc first) i n (Some x ∷ places) le none = absurd (omega (arith, none))
+
 length-cut : {A : Type 0} (first n : ℕ) (places : List (Option A)) → length (cut first n places) ≡ length places
 length-cut zero zero places = refl
 length-cut zero (suc n) [] = refl
@@ -104,9 +115,12 @@ emptied_more chain first n i lt is =
     ∙ cut_more first n chain ∙ ap (λ k. cut first k chain) (sym e)
     ∙ sym (cut_is first (n + 1) chain (omega (arith, lt)))
 
-pub emptied_empty : (chain : List (Option ℕ)) (first n : ℕ) → first + n ≤ length chain → held_count chain ≡ 0
-    → emptied chain first n ≡ chain
-emptied_empty chain first n le none = cut_is first n chain le ∙ cut_nothing first n chain none
+-- once nothing is held, no more is to be emptied
+pub emptied_rest : (chain : List (Option ℕ)) (first i n : ℕ) → first + n ≤ length chain → i ≤ n
+    → held_count (emptied chain first i) ≡ 0 → emptied chain first i ≡ emptied chain first n
+emptied_rest chain first i n le fewer none =
+    let part = cut_is first i chain (omega (arith, le, fewer)) in
+    part ∙ cut_rest first i n chain fewer (sym (ap held_count part) ∙ none) ∙ sym (cut_is first n chain le)
 
 pub emptied_all : (chain : List (Option ℕ)) → length chain ≡ 256 → emptied chain 0 256 ≡ replicate 256 None
 emptied_all chain long =

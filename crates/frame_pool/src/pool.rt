@@ -98,10 +98,10 @@ fn give_back(chain: &mut Chain, returned: &mut Vec<u16>, first: usize, count: us
         ≡ length returned.old.items + held_count chain.old }
     ensures room { vec_capacity returned.new ≡ vec_capacity returned.old }
 {
-    if chain.held() == 0 {
-        return;
-    }
     for place in first..first + count {
+        if chain.held() == 0 {
+            return;
+        }
         if let Some(slot) = chain.let_go(place) {
             returned.push_reserved(slot);
         }

@@ -7,7 +7,6 @@ pub mod Order
 pub mod InOrder
 pub mod OneMessage
 pub mod Named
-pub mod OneAtATime
 pub mod Levels
 pub mod Directories
 pub mod Filing

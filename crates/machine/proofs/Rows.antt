@@ -1,5 +1,5 @@
 -- Worked rows: what small scripts over one roster tell, put on the wire and have as their text.
-use Rattle.std.proofs.Common.{◌≡◌, ℕ, List, [], ◌∷◌, ◌++◌, None, refl, replicate, take, length, reverse, arith}
+use Rattle.std.proofs.Common.{◌≡◌, ℕ, List, [], ◌∷◌, ◌++◌, None, refl, replicate, take, length, arith}
 use Rattle.std.specs.Prelude.{codes, map, ◌+◌, ◌-◌, ◌/◌, ◌%◌}
 use Rattle.std.specs.List.{range_with_len}
 use Rattle.file_calls.specs.ByteLaws.{are_bytes}
@@ -18,7 +18,6 @@ use Rattle.seal_core.specs.Blocks.{blocks, first_blocks}
 use Rattle.frame.specs.Pieces.{piece_count, piece_bytes, padded}
 use Rattle.frame.specs.declared.refused.SendRefused.TheVariants.{NoPartner, TooLong}
 use Rattle.events.specs.declared.event.Stream.{Stream}
-use Rattle.machine.specs.declared.line.OutLine.{OutLine}
 use Rattle.machine.specs.declared.line.OutLine.TheVariants.{Sent, Refused, From}
 use Rattle.file_calls.specs.declared.call.Call.TheVariants.{Put, Append, Get, GetBlock, List as ListNames, Remove}
 use Rattle.file_calls.specs.Spelling.{call_text, call_of, reply_text}
@@ -36,7 +35,7 @@ use Rattle.machine.specs.Low.{low}
 use Rattle.machine.specs.Files.{CallRow, writing}
 use Rattle.machine.specs.Replies.{question_by, reply_with}
 use Rattle.machine.specs.Plan.{next_action, reply}
-use Rattle.machine.specs.Machine.{gives, state, state_at, told}
+use Rattle.machine.specs.Machine.{gives, state_at, told}
 use Rattle.machine.specs.Wire.{frames}
 use Rattle.machine.specs.Text.{hosts_in_order, text, text_below, wire_text}
 
@@ -63,12 +62,6 @@ script_of rows events = record {
   rows = rows;
   events = events;
 }
-
--- what events tell a host where this many messages ahead are looked at
-abbrev told_ahead : ℕ → List Event → ℕ → List OutLine
-told_ahead ahead events host =
-    (let m = setup_of (script_of [] events) in
-    (state (record m { ahead = ahead }) (reverse events)).told (Host host))
 
 abbrev stream : ℕ → ℕ → Stream
 stream s r = record { from = Host s; to = Host r }
@@ -178,7 +171,7 @@ row_10 : told (script_of [] (piece 0 0 ∷ Send 1 (Host 2) (0 ∷ []) ∷ piece 
 unfolding gives piece_count
 row_10 = refl
 
--- ---- one message at a time, and a window of four
+-- ---- messages out of order
 
 abbrev newest_first : List Event
 newest_first = Send 1 (Host 2) (1 ∷ []) ∷ Send 1 (Host 2) (2 ∷ []) ∷ piece 1 0 ∷ piece 0 0 ∷ []
@@ -186,10 +179,6 @@ newest_first = Send 1 (Host 2) (1 ∷ []) ∷ Send 1 (Host 2) (2 ∷ []) ∷ pie
 row_7 : told (script_of [] newest_first) (Host 2) ≡ From (Host 1) (2 ∷ []) ∷ []
 unfolding gives piece_count
 row_7 = refl
-
-row_7_of_four : told_ahead 3 newest_first 2 ≡ From (Host 1) (2 ∷ []) ∷ []
-unfolding gives piece_count
-row_7_of_four = refl
 
 abbrev newer_between : List Event
 newer_between =
@@ -199,10 +188,6 @@ row_8 : told (script_of [] newer_between) (Host 2) ≡ From (Host 1) (2 ∷ []) 
 unfolding gives piece_count
 row_8 = refl
 
-row_8_of_four : told_ahead 3 newer_between 2 ≡ From (Host 1) (2 ∷ []) ∷ []
-unfolding gives piece_count
-row_8_of_four = refl
-
 abbrev five : List Event → List Event
 five events =
     two_pieces 0 ∷ two_pieces 1 ∷ two_pieces 2 ∷ two_pieces 3 ∷ two_pieces 4 ∷ events
@@ -210,28 +195,24 @@ five events =
 abbrev mixed : List Event
 mixed = five (piece 0 0 ∷ piece 1 0 ∷ piece 0 1 ∷ piece 1 1 ∷ [])
 
-mixed_of_four : told_ahead 3 mixed 2
+both_mixed : told (script_of [] mixed) (Host 2)
     ≡ From (Host 1) (replicate 89 0) ∷ From (Host 1) (replicate 89 1) ∷ []
 unfolding gives piece_count
-mixed_of_four = refl
+both_mixed = refl
 
-mixed_of_one : told (script_of [] mixed) (Host 2) ≡ From (Host 1) (replicate 89 1) ∷ []
-unfolding gives piece_count
-mixed_of_one = refl
-
-three_behind_of_four : told_ahead 3 (five (piece 0 0 ∷ piece 3 0 ∷ piece 0 1 ∷ [])) 2
+three_behind : told (script_of [] (five (piece 0 0 ∷ piece 3 0 ∷ piece 0 1 ∷ []))) (Host 2)
     ≡ From (Host 1) (replicate 89 0) ∷ []
 unfolding gives piece_count
-three_behind_of_four = refl
+three_behind = refl
 
-four_behind_of_four : told_ahead 3 (five (piece 0 0 ∷ piece 4 0 ∷ piece 0 1 ∷ [])) 2 ≡ []
+four_behind : told (script_of [] (five (piece 0 0 ∷ piece 4 0 ∷ piece 0 1 ∷ []))) (Host 2) ≡ []
 unfolding gives piece_count
-four_behind_of_four = refl
+four_behind = refl
 
-given_behind_of_four : told_ahead 3 (five (piece 0 0 ∷ piece 1 0 ∷ piece 1 1 ∷ piece 0 1 ∷ [])) 2
+given_behind : told (script_of [] (five (piece 0 0 ∷ piece 1 0 ∷ piece 1 1 ∷ piece 0 1 ∷ []))) (Host 2)
     ≡ From (Host 1) (replicate 89 1) ∷ []
 unfolding gives piece_count
-given_behind_of_four = refl
+given_behind = refl
 
 -- ---- frames under clear sealing
 

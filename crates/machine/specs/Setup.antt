@@ -5,6 +5,7 @@ use Rattle.levels.specs.declared.level.Sealing.{Sealing}
 use Rattle.levels.specs.declared.level.Sealing.TheVariants.{Clear, Des}
 use Rattle.levels.specs.Rosters.{RosterView}
 use Rattle.levels.specs.Keys.{keys_at, guard_of}
+use Rattle.frame.specs.Ahead.{messages_ahead}
 use Rattle.seal_core.specs.declared.KeyPair.{KeyPair}
 use Rattle.seal_core.specs.Sealing.{Sealer}
 use Rattle.seal_core.specs.Clear.{clear_text}
@@ -31,10 +32,6 @@ sealer Des = des_text
 -- in the place of keys that a roster doesn't have; the roster of a script has all
 abbrev pub no_keys : KeyPair
 no_keys = record { main = replicate 8 0; check = replicate 8 0 }
-
--- a receiver looks at one message of a sender at a time: no message is given behind the newest one
-abbrev pub messages_ahead : ℕ
-messages_ahead = 0
 
 abbrev pub setup_of : ScriptView → Setup
 setup_of script = record {

@@ -1,4 +1,4 @@
-ghost use Rattle.std.specs.Prelude.{◌≡◌, ◌≢◌, ◌↔◌, ℕ, ◌*◌, ◌<◌, ◌≤◌, [], ◌∷◌, ◌++◌, ◌&&◌, not, length, List, true, false, Some, slice_get};
+ghost use Rattle.std.specs.Prelude.{◌≡◌, ◌≢◌, ◌↔◌, ℕ, ◌*◌, ◌<◌, ◌≤◌, [], ◌∷◌, ◌++◌, length, List, true, false, Some, slice_get};
 ghost use Rattle.std.specs.List.{AllByRecursion};
 ghost use Rattle.levels.specs.declared.level.Level.{Level};
 ghost use Rattle.levels.specs.declared.level.Partition.{Partition};
@@ -21,11 +21,11 @@ ghost use Rattle.events.specs.Scripts.{IsScript};
 ghost use Rattle.machine.specs.Setup.{Setup, setup_of};
 ghost use Rattle.machine.specs.Low.{place_of, is_low, low};
 ghost use Rattle.machine.specs.Sends.{Sending, sending_of};
-ghost use Rattle.machine.specs.Given.{has_piece, has_all, has_later};
+ghost use Rattle.machine.specs.Given.{has_piece};
 ghost use Rattle.machine.specs.Files.{CallRow};
 ghost use Rattle.machine.specs.Replies.{Question};
 ghost use Rattle.machine.specs.Plan.{question_of, reply};
-ghost use Rattle.machine.specs.Machine.{State, address_of, number_of, handed, gives, message_of, given_to, sent_by, after, state, told, state_at};
+ghost use Rattle.machine.specs.Machine.{State, address_of, number_of, gives, message_of, given_to, sent_by, after, state, told, state_at};
 ghost use Rattle.machine.specs.Wire.{frames_of, frames_from};
 ghost use Rattle.machine.specs.FalseBytes.{IsSentFrame, IsFirstFalse};
 ghost use Rattle.machine.specs.Text.{text_below};
@@ -53,16 +53,6 @@ pub fn gives_what_it_hands_over()
 pub fn messages_are_given_in_order()
     ensures { (script : ScriptView) (s r : Party) → IsRoster script.roster →
         AreInOrder script s r }
-{}
-
-/// Where no message is given behind the newest one, a message is given exactly where it becomes
-/// whole and no piece of a greater one was there.
-pub fn one_message_at_a_time()
-    ensures { (m : Setup) (past : List Event) (e : Event) (s u : Party) (j : ℕ) → m.ahead ≡ 0 →
-        (let x = state m past in
-        let message = slice_get (x.sent s u) j in
-        gives m x e s u j ≡ (has_all message (handed m x e s u ++ x.arrived s u) j
-        && not (has_all message (x.arrived s u) j) && not (has_later (x.arrived s u) j))) }
 {}
 
 /// An event gives a party one message at most, where a forged frame is the frame of pieces of one

@@ -1,6 +1,7 @@
 mod drills;
 mod false_bytes;
 mod faults;
+mod orders;
 mod runs;
 mod twins;
 mod units;

@@ -3,7 +3,7 @@ ghost use Rattle.ring_link.specs.Ends.{sent_by, received_by, spare, known_slots,
 
 use crate::gate::{Gate, Side};
 use frame::Piece;
-use rtrb::{Consumer, Producer};
+use rtrb::{Consumer, Producer, PushError};
 use std::alloc::{AllocError, Global};
 use std::collections::VecDeque;
 use std::marker::Model;
@@ -53,6 +53,38 @@ impl End {
 
     /// Offers a piece to the other side. Never refused: what the ring doesn't take waits.
     pub(crate) fn offer<G: Gate>(&mut self, gate: &G, side: Side, piece: Piece)
+        requires { 0 < spare self.old }
+        ensures same { SameEnd self.old self.new }
+        ensures memory { self.new.capacity ≡ self.old.capacity }
+        ensures received { received_by self.new ≡ received_by self.old }
+        ensures moved { IsOffer self.old self.new piece }
+        ensures flushed { (self.new.backlog ≡ []) ⊎ (known_slots self.new ≡ 0) }
+    {
+        if self.backlog.is_empty() {
+            self.offer_first(gate, side, piece);
+        } else {
+            self.offer_behind(gate, side, piece);
+        }
+    }
+
+    /// Offers a piece that no other waits before.
+    fn offer_first<G: Gate>(&mut self, gate: &G, side: Side, piece: Piece)
+        requires spare { 0 < spare self.old }
+        requires empty { self.old.backlog ≡ [] }
+        ensures same { SameEnd self.old self.new }
+        ensures memory { self.new.capacity ≡ self.old.capacity }
+        ensures received { received_by self.new ≡ received_by self.old }
+        ensures moved { IsOffer self.old self.new piece }
+        ensures flushed { (self.new.backlog ≡ []) ⊎ (known_slots self.new ≡ 0) }
+    {
+        match self.producer.push(piece) {
+            Ok(()) => gate.pushed(side),
+            Err(PushError::Full(piece)) => self.backlog.push_back_reserved(piece),
+        }
+    }
+
+    /// Offers a piece behind those that wait.
+    fn offer_behind<G: Gate>(&mut self, gate: &G, side: Side, piece: Piece)
         requires { 0 < spare self.old }
         ensures same { SameEnd self.old self.new }
         ensures memory { self.new.capacity ≡ self.old.capacity }

@@ -1,5 +1,9 @@
 pub mod Filling
-pub mod Blocks
-pub mod Kept
 pub mod Rule
+pub mod Given
+pub mod Quarters
+pub mod Cut
+pub mod Changes
+pub mod Dropping
+pub mod Taking
 pub mod Seen

@@ -3,6 +3,7 @@
 use Rattle.std.specs.Prelude.{ℕ, ◌+◌, List, [], ◌∷◌, Bool, false, not, nat_lt, ◌==◌, ◌&&◌, Option, Some, None, if◌then◌else◌, unwrap_or, map}
 use Rattle.std.specs.List.{list_any, list_all, range_with_len, flat_map}
 use Rattle.frame.specs.Pieces.{PieceView, used_bytes}
+use Rattle.frame.specs.Ahead.{messages_ahead}
 
 -- what an earlier piece gave, else what this one gives
 abbrev pub or_else : {A : Type 0} → Option A → Option A → Option A
@@ -38,11 +39,23 @@ is_whole h j = is_whole_to h j (last_of h j)
 abbrev pub has_newer : List PieceView → ℕ → Bool
 has_newer h j = list_any (λ x. nat_lt j x.message) h
 
--- whether the next piece completes its message: it is whole now, was not before, and no newer
--- message has begun
+-- whether the next piece completes its message, where the messages with these numbers were given:
+-- it is whole now, was not before, no piece has come of one more than three numbers greater, and
+-- no message with a greater number was given
+abbrev pub completes_past : List ℕ → List PieceView → PieceView → Bool
+completes_past given h x =
+    is_whole (x ∷ h) x.message && not (is_whole h x.message)
+    && not (has_newer h (x.message + messages_ahead)) && not (list_any (nat_lt x.message) given)
+
+-- the numbers of the messages that the pieces gave, the last first
+abbrev pub given_in : List PieceView → List ℕ
+given_in [] = []
+given_in (x ∷ h) =
+    if completes_past (given_in h) h x then x.message ∷ given_in h else given_in h
+
+-- whether the next piece completes its message
 abbrev pub completes : List PieceView → PieceView → Bool
-completes h x =
-    is_whole (x ∷ h) x.message && not (is_whole h x.message) && not (has_newer h x.message)
+completes h x = completes_past (given_in h) h x
 
 -- the bytes of the first piece at place i of message j
 abbrev pub bytes_at : List PieceView → ℕ → ℕ → ℕ → Option (List ℕ)

@@ -6,12 +6,19 @@ pub record Whole : Type 0 where
   pub message : ℕ
   pub length : ℕ
 
+-- a message of which pieces are held: its number, and its places, each with its bytes or none
+pub record HeldMessage : Type 0 where
+  pub message : ℕ
+  pub places : List (Option (List ℕ))
+
 -- what is held of a partner
 pub record PartnerView : Type 0 where
   -- the greatest number of a message of which a piece came
   pub newest : Option ℕ
-  -- the places of that message, each with its bytes or none; none at all once it was handed out
-  pub held : Option (List (Option (List ℕ)))
+  -- the greatest number of a message that was given
+  pub given : Option ℕ
+  -- the messages of which pieces are held
+  pub held : List HeldMessage
   -- the message that waits to be handed out
   pub waiting : Option Whole
 

@@ -1,10 +1,11 @@
 -- A window, by the address of a partner.
-use Rattle.std.specs.Prelude.{◌≡◌, ◌≢◌, ℕ, ◌<◌, ◌≤◌, List, [], ◌∷◌, length, Bool, true, false, ◌==◌, Option, Some, None, is_some, slice_index, if◌then◌else◌}
+use Rattle.std.specs.Prelude.{◌≡◌, ◌≢◌, ℕ, ◌<◌, ◌+◌, ◌≤◌, List, [], ◌∷◌, length, Bool, true, false, ◌==◌, nat_lt, nat_le, ◌&&◌, ◌||◌, Option, Some, None, is_some, slice_index, if◌then◌else◌}
 use Rattle.std.specs.List.{list_any}
 use Rattle.std.proofs.Math.ListN.{get_or}
 use Rattle.frame.specs.Pieces.{PieceView}
-use Rattle.window.specs.WindowView.{Whole, PartnerView, WindowView}
-use Rattle.window.specs.ListRule.{last_of, has_newer, is_whole, completes, places_held, body}
+use Rattle.frame.specs.Ahead.{messages_ahead}
+use Rattle.window.specs.WindowView.{Whole, HeldMessage, PartnerView, WindowView}
+use Rattle.window.specs.ListRule.{last_of, has_newer, given_in, completes, places_held, body}
 use Rattle.window.specs.declared.reception.Taken.{Taken}
 use Rattle.window.specs.declared.reception.Taken.TheVariants.{Nothing, Complete}
 
@@ -37,24 +38,50 @@ abbrev pub IsNewest : Option ℕ → List PieceView → Type 0
 IsNewest None h = h ≡ []
 IsNewest (Some j) h = (is_some (last_of h j) ≡ true) × (has_newer h j ≡ false)
 
--- of the newest message its places are held, until it is whole and was handed out
-abbrev pub IsHeld : Option ℕ → Option (List (Option (List ℕ))) → List PieceView → Type 0
-IsHeld None held h = held ≡ None
-IsHeld (Some j) (Some places) h = places ≡ places_held h j
-IsHeld (Some j) None h = is_whole h j ≡ true
+-- the places of a message, each with its bytes or none; no places where nothing of it is held
+abbrev pub places_of : List HeldMessage → ℕ → List (Option (List ℕ))
+places_of [] j = []
+places_of (x ∷ held) j = if x.message == j then x.places else places_of held j
 
--- the newest message waits where it is held and whole
-abbrev pub waiting_in : Option ℕ → Option (List (Option (List ℕ))) → List PieceView → Option Whole
-waiting_in None held h = None
-waiting_in (Some j) None h = None
-waiting_in (Some j) (Some places) h =
-    if is_whole h j then Some (record { message = j; length = length (body h j) }) else None
+-- the greatest of these numbers, or none where there is none
+abbrev pub IsGreatest : Option ℕ → List ℕ → Type 0
+IsGreatest None numbers = numbers ≡ []
+IsGreatest (Some j) numbers =
+    (list_any (λ k. k == j) numbers ≡ true) × (list_any (nat_lt j) numbers ≡ false)
+
+-- whether j is at most three numbers behind the newest message
+abbrev pub is_recent : Option ℕ → ℕ → Bool
+is_recent None j = false
+is_recent (Some newest) j = nat_le newest (j + messages_ahead)
+
+-- whether j is greater than each number that was given
+abbrev pub is_above : Option ℕ → ℕ → Bool
+is_above None j = true
+is_above (Some given) j = nat_lt given j
+
+-- whether message j waits to be handed out
+abbrev pub is_waiting : Option Whole → ℕ → Bool
+is_waiting None j = false
+is_waiting (Some whole) j = whole.message == j
+
+-- Pieces are held of the messages that may still be given, and of the one that waits.
+abbrev pub is_kept : PartnerView → ℕ → Bool
+is_kept partner j = (is_recent partner.newest j && is_above partner.given j)
+    || is_waiting partner.waiting j
+
+-- what waits is the last message that was given, with its length
+abbrev pub Waits : Option Whole → Option ℕ → List PieceView → Type 0
+Waits None given h = Unit {0}
+Waits (Some whole) given h =
+    (given ≡ Some whole.message) × (whole.length ≡ length (body h whole.message))
 
 -- what is held of a partner is what this list of its pieces left
 pub record Left (h : List PieceView) (partner : PartnerView) : Type 0 where
   pub newest : IsNewest partner.newest h
-  pub held : IsHeld partner.newest partner.held h
-  pub waiting : partner.waiting ≡ waiting_in partner.newest partner.held h
+  pub given : IsGreatest partner.given (given_in h)
+  pub held : (j : ℕ)
+      → places_of partner.held j ≡ (if is_kept partner j then places_held h j else [])
+  pub waiting : Waits partner.waiting partner.given h
 
 abbrev pub LeftIn : List PieceView → Option PartnerView → Type 0
 LeftIn h None = ⊥

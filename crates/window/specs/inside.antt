@@ -1,4 +1,4 @@
 pub mod Places
-pub mod Blocks
+pub mod Quarters
 pub mod Standing
 pub mod Receptions

@@ -1,7 +1,7 @@
 //! Pieces of messages put together, for each partner by itself.
 #![tactic(auto)]
 
-mod places;
+mod heads;
 mod reception;
 pub mod scan;
 mod window;

@@ -1,14 +1,16 @@
-ghost use Rattle.std.specs.Prelude.{◌≡◌, true, None, List, ◌∷◌, length, IfOk, IfSome, IsSomeAnd};
+ghost use Rattle.std.specs.Prelude.{◌≡◌, ◌<◌, ◌&&◌, true, false, None, Some, ℕ, List, [], ◌∷◌, length, IfSome, IsSomeAnd, replicate, if◌then◌else◌};
 ghost use Rattle.frame.specs.Pieces.{PieceView};
 ghost use Rattle.window.specs.ListRule.{body};
-ghost use Rattle.window.specs.Windows.{taken, waiting_after, IsShort};
-ghost use Rattle.window.specs.inside.Places.{nothing_held, has_room_for, with_piece};
-ghost use Rattle.window.specs.inside.Standing.{Holds, is_newer, is_open, answer_of, waiting_at};
-ghost use Rattle.window.specs.declared.reception.Stage.TheVariants.{Unheard, Open};
+ghost use Rattle.window.specs.Windows.{taken, waiting_after, IsShort, is_recent, is_above};
+ghost use Rattle.window.specs.inside.Quarters.{held, Keeps, Turns};
+ghost use Rattle.window.specs.inside.Standing.{later_of, whole_of, answer_of, given_with, waiting_with, is_let_go, KeepsAll, Stood};
 
-use crate::places::Places;
+use crate::heads::Heads;
 use frame::Piece;
-use std::alloc::{AllocError, Global};
+use frame_pool::Pool;
+
+/// How far a message may be behind the newest one.
+const AHEAD: u32 = 3;
 
 /// What a piece that was taken did.
 #[derive(Clone, Copy, Debug, PartialEq, Eq)]
@@ -18,118 +20,144 @@ pub enum Taken {
     Complete(u16),
 }
 
-/// How far the newest message of a partner is.
+/// A message that waits to be handed out.
 #[derive(Clone, Copy)]
-pub enum Stage {
-    /// No piece has come.
-    Unheard,
-    /// Its pieces are held. Where none is missing, it waits to be handed out.
-    Open(u32),
-    /// It was handed out.
-    Given(u32),
+pub struct Waiting {
+    pub message: u32,
+    pub length: u16,
 }
 
 /// What came from one partner.
 #[derive(Drop)]
 pub struct Reception {
-    pub stage: Stage,
-    pub places: Places,
+    /// The greatest number of a message of which a piece came.
+    pub newest: Option<u32>,
+    /// The greatest number of a message that was given.
+    pub given: Option<u32>,
+    pub waiting: Option<Waiting>,
+    pub heads: Heads,
+}
+
+fn later_of(newest: Option<u32>, message: u32) -> u32
+    ensures { result ≡ later_of newest message }
+{
+    match newest {
+        None => message,
+        Some(newest) if newest < message => message,
+        Some(newest) => newest,
+    }
 }
 
 impl Reception {
-    pub fn open(alloc: Global) -> Result<Reception, AllocError>
-        ensures { IfOk result (λ reception. reception.stage ≡ Unheard) }
+    /// Nothing has come yet.
+    pub fn open(owner: u16) -> Reception
+        ensures owner { result.heads.owner ≡ owner }
+        ensures heads { result.heads.heads ≡ replicate 4 None }
+        ensures newest { result.newest ≡ None }
+        ensures given { result.given ≡ None }
+        ensures waiting { result.waiting ≡ None }
     {
-        let places = Places::open(alloc)?;
-        Ok(Reception {
-            stage: Stage::Unheard,
-            places,
-        })
-    }
-
-    /// Whether a message is newer than all that have begun.
-    fn is_newer(&self, message: u32) -> bool
-        ensures { result ≡ is_newer self.now.stage message }
-    {
-        match self.stage {
-            Stage::Unheard => true,
-            Stage::Open(newest) => newest < message,
-            Stage::Given(newest) => newest < message,
+        Reception {
+            newest: None,
+            given: None,
+            waiting: None,
+            heads: Heads {
+                owner,
+                heads: [None; 4],
+            },
         }
     }
 
-    /// Whether a message has begun, and was not handed out.
-    fn is_open(&self, message: u32) -> bool
-        ensures { result ≡ is_open self.now.stage message }
+    /// Notes that a piece of a message came, and lets go what is too old after it.
+    fn advance(&mut self, pool: &mut Pool, message: u32)
+        requires { Keeps self.old.heads pool.old }
+        ensures newest { self.new.newest ≡ Some (later_of self.old.newest message) }
+        ensures given { self.new.given ≡ self.old.given }
+        ensures waiting { self.new.waiting ≡ self.old.waiting }
+        ensures keeps { Keeps self.new.heads pool.new }
+        ensures turns { Turns self.old.heads self.new.heads pool.old pool.new }
+        ensures held { (j : ℕ) → held self.new.heads pool.new j
+            ≡ (if is_recent self.new.newest j then held self.old.heads pool.old j else []) }
     {
-        match self.stage {
-            Stage::Open(newest) => newest == message,
-            _ => false,
+        let newest = later_of(self.newest, message);
+        self.newest = Some(newest);
+        self.heads.drop_before(pool, newest.saturating_sub(AHEAD));
+    }
+
+    /// Whether a message may still be given: it is not too old, and no later one was given.
+    fn may_give(&self, message: u32) -> bool
+        ensures { result ≡ (is_recent self.now.newest message && is_above self.now.given message) }
+    {
+        let is_recent = match self.newest {
+            None => false,
+            Some(newest) => newest.saturating_sub(AHEAD) <= message,
+        };
+        let is_above = match self.given {
+            None => true,
+            Some(given) => given < message,
+        };
+        is_recent && is_above
+    }
+
+    /// Gives a message if all its pieces are held, and lets go what was to come before it.
+    fn finish(&mut self, pool: &mut Pool, message: u32) -> Taken
+        requires { Keeps self.old.heads pool.old }
+        ensures answer { result ≡ answer_of (held self.old.heads pool.old message) }
+        ensures newest { self.new.newest ≡ self.old.newest }
+        ensures given { self.new.given ≡ given_with self.old.given message result }
+        ensures waiting { whole_of self.new.waiting
+            ≡ waiting_with (whole_of self.old.waiting) message result }
+        ensures keeps { Keeps self.new.heads pool.new }
+        ensures turns { Turns self.old.heads self.new.heads pool.old pool.new }
+        ensures held { (j : ℕ) → held self.new.heads pool.new j
+            ≡ (if is_let_go message result j then [] else held self.old.heads pool.old j) }
+    {
+        match self.heads.full_length(message) {
+            None => Taken::Nothing,
+            Some(length) => {
+                self.given = Some(message);
+                self.waiting = Some(Waiting { message, length });
+                self.heads.drop_before(pool, message);
+                Taken::Complete(length)
+            }
         }
     }
 
-    /// Begins a piece's message in place of the one before.
-    fn begin(&mut self, piece: &Piece)
-        ensures stage { self.new.stage ≡ Open piece.now.message }
-        ensures places { self.new.places.held ≡ nothing_held piece.now.last }
-        ensures room { self.new.places.room ≡ self.old.places.room }
-    {
-        self.places.begin(piece.last());
-        self.stage = Stage::Open(piece.message());
-    }
-
-    /// Puts a piece of the open message into its place.
-    fn put(&mut self, piece: &Piece) -> Taken
-        requires { has_room_for self.old.places.held piece.now ≡ true }
-        ensures places { self.new.places.held ≡ with_piece self.old.places.held piece.now }
-        ensures stage { self.new.stage ≡ self.old.stage }
-        ensures answer { result ≡ answer_of self.new.places.held }
-        ensures short { IsShort result }
-        ensures room { self.new.places.room ≡ self.old.places.room }
-    {
-        self.places.put(piece);
-        if self.places.is_whole() {
-            Taken::Complete(self.places.len())
-        } else {
-            Taken::Nothing
-        }
-    }
-
-    pub fn take(&mut self, piece: &Piece) -> Taken
-        requires { waiting_at self.old.stage self.old.places.held ≡ None }
-        ensures stands { (h : List PieceView) → Holds self.old.stage self.old.places.held h →
-            Holds self.new.stage self.new.places.held (piece.now ∷ h) }
-        ensures answer { (h : List PieceView) → Holds self.old.stage self.old.places.held h →
+    pub fn take(&mut self, pool: &mut Pool, piece: &Piece) -> Taken
+        requires keeps { KeepsAll self.old pool.old }
+        requires free { self.old.waiting ≡ None }
+        ensures keeps { KeepsAll self.new pool.new }
+        ensures turns { Turns self.old.heads self.new.heads pool.old pool.new }
+        ensures stands { (h : List PieceView) → Stood self.old pool.old h →
+            Stood self.new pool.new (piece.now ∷ h) }
+        ensures answer { (h : List PieceView) → Stood self.old pool.old h →
             result ≡ taken h piece.now }
-        ensures waiting { waiting_at self.new.stage self.new.places.held
-            ≡ waiting_after piece.now result }
+        ensures waiting { whole_of self.new.waiting ≡ waiting_after piece.now result }
         ensures short { IsShort result }
-        ensures room { self.new.places.room ≡ self.old.places.room }
     {
-        if self.is_open(piece.message()) && self.places.has_room_for(piece) {
-            return self.put(piece);
+        self.advance(pool, piece.message());
+        if !self.may_give(piece.message()) {
+            return Taken::Nothing;
         }
-        if self.is_newer(piece.message()) {
-            self.begin(piece);
-            return self.put(piece);
-        }
-        Taken::Nothing
+        self.heads.join(pool, piece);
+        self.finish(pool, piece.message())
     }
 
-    pub fn hand_out(&mut self, out: &mut [u8])
-        requires { IsSomeAnd (waiting_at self.old.stage self.old.places.held)
+    pub fn hand_out(&mut self, pool: &mut Pool, out: &mut [u8])
+        requires keeps { KeepsAll self.old pool.old }
+        requires length { IsSomeAnd (whole_of self.old.waiting)
             (λ whole. length out.old ≡ whole.length) }
-        ensures body { (h : List PieceView) → Holds self.old.stage self.old.places.held h →
-            IfSome (waiting_at self.old.stage self.old.places.held)
-            (λ whole. out.new ≡ body h whole.message) }
-        ensures stands { (h : List PieceView) → Holds self.old.stage self.old.places.held h →
-            Holds self.new.stage self.new.places.held h }
-        ensures waiting { waiting_at self.new.stage self.new.places.held ≡ None }
-        ensures room { self.new.places.room ≡ self.old.places.room }
+        ensures keeps { KeepsAll self.new pool.new }
+        ensures turns { Turns self.old.heads self.new.heads pool.old pool.new }
+        ensures body { (h : List PieceView) → Stood self.old pool.old h →
+            IfSome (whole_of self.old.waiting) (λ whole. out.new ≡ body h whole.message) }
+        ensures stands { (h : List PieceView) → Stood self.old pool.old h →
+            Stood self.new pool.new h }
+        ensures waiting { self.new.waiting ≡ None }
     {
-        if let Stage::Open(message) = self.stage {
-            self.places.copy_out(out);
-            self.stage = Stage::Given(message);
+        if let Some(whole) = self.waiting {
+            self.heads.hand_out(pool, whole.message, out);
+            self.waiting = None;
         }
     }
 }

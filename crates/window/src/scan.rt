@@ -1,11 +1,15 @@
 //! The list rule as a plain program that looks through the whole list, for each place of a message.
-ghost use Rattle.std.specs.Prelude.{◌≡◌, ◌≤◌, [], ◌++◌, IfOk, OnOk, IfSome, unwrap_or};
-ghost use Rattle.std.specs.List.{list_all, flat_map};
-ghost use Rattle.window.specs.ListRule.{places_to, last_of, is_held, is_whole, has_newer, bytes_at, body};
+ghost use Rattle.std.specs.Prelude.{◌≡◌, ◌≤◌, ◌+◌, [], ◌∷◌, ◌++◌, nat_lt, IfOk, OnOk, IfSome, unwrap_or};
+ghost use Rattle.std.specs.List.{list_all, list_any, flat_map};
+ghost use Rattle.window.specs.ListRule.{places_to, last_of, is_held, is_whole, has_newer, given_in, completes_past, bytes_at, body};
+ghost use Rattle.frame.specs.Ahead.{messages_ahead};
 ghost use Rattle.window.specs.Scanning.{bytes_in, items_in, completed};
 
 use frame::Piece;
 use std::alloc::{AllocError, Global};
+
+/// How far a message may be behind the newest one.
+const AHEAD: u64 = 3;
 
 /// The last place of a message, as the first of its pieces has it.
 fn last_of(heard: &[Piece], message: u32) -> Option<u8>
@@ -77,10 +81,47 @@ fn is_whole(heard: &[Piece], message: u32) -> bool
     }
 }
 
-fn has_newer(heard: &[Piece], message: u32) -> bool
-    ensures { result ≡ has_newer heard.now message }
+/// Whether there is a piece of a message more than three numbers later.
+fn has_much_newer(heard: &[Piece], message: u32) -> bool
+    ensures { result ≡ has_newer heard.now (message + messages_ahead) }
 {
-    heard.iter().any(|x| message < x.message())
+    heard
+        .iter()
+        .any(|x| u64::from(message) + AHEAD < u64::from(x.message()))
+}
+
+fn has_greater(given: &[u32], message: u32) -> bool
+    ensures { result ≡ list_any (nat_lt message) given.now }
+{
+    given.iter().any(|number| message < *number)
+}
+
+/// Whether a piece completes its message after the others, where these messages were given.
+fn completes(given: &[u32], older: &[Piece], heard: &[Piece], piece: &Piece) -> bool
+    requires { heard.now ≡ piece.now ∷ older.now }
+    ensures { result ≡ completes_past given.now older.now piece.now }
+{
+    let message = piece.message();
+    is_whole(heard, message)
+        && !is_whole(older, message)
+        && !has_much_newer(older, message)
+        && !has_greater(given, message)
+}
+
+/// The numbers of the messages that the pieces gave, the last first.
+fn given_in(alloc: Global, heard: &[Piece]) -> Result<Vec<u32>, AllocError>
+    ensures { IfOk result (λ given. given.items ≡ given_in heard.now) }
+{
+    match heard {
+        [] => Ok(Vec::new(alloc)),
+        [newest, older @ ..] => {
+            let mut given = given_in(alloc, older)?;
+            if completes(&given, older, heard, newest) {
+                given.insert(0, newest.message())?;
+            }
+            Ok(given)
+        }
+    }
 }
 
 /// Appends what a piece carries, if there is one.
@@ -124,9 +165,9 @@ pub fn completed(alloc: Global, heard: &[Piece]) -> Result<Option<Vec<u8>>, Allo
     match heard {
         [] => Ok(None),
         [newest, older @ ..] => {
-            let message = newest.message();
-            if is_whole(heard, message) && !is_whole(older, message) && !has_newer(older, message) {
-                let bytes = body(alloc, heard, message)?;
+            let given = given_in(alloc, older)?;
+            if completes(&given, older, heard, newest) {
+                let bytes = body(alloc, heard, newest.message())?;
                 return Ok(Some(bytes));
             }
             Ok(None)

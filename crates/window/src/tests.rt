@@ -1,5 +1,5 @@
 ghost use Rattle.std.specs.Prelude.{◌≡◌, ◌≤◌, true, None, IfSome};
-ghost use Rattle.window.specs.Windows.{is_sender, waiting};
+ghost use Rattle.window.specs.Windows.{is_sender, waiting, SameElsewhere};
 
 use crate::reception::Taken;
 use crate::scan;
@@ -24,32 +24,59 @@ const LONGER: [u8; 177] = [0xcc; 177];
 
 const LAST_NUMBER: u32 = 4_294_967_295;
 
-/// A piece of host 1's to host 2, as if it had sent this message.
-fn piece(message: u32, body: &[u8], i: u8) -> Option<Piece>
-    ensures { IfSome result (λ piece. piece.from ≡ 1) }
+/// A piece of a host's to host 9, as if it had sent this message.
+fn piece(from: u8, message: u32, body: &[u8], i: u8) -> Option<Piece>
+    ensures { IfSome result (λ piece. piece.from ≡ from) }
 {
     if body.len() > MESSAGE_LIMIT || i >= pieces(body.len()) {
         return None;
     }
-    Some(cut(1, 2, 0, message, body, i))
+    Some(cut(from, 9, 0, message, body, i))
 }
 
-/// Takes a piece from host 1, and hands out the message that it completes.
-fn hear(window: &mut Window, piece: &Piece, out: &mut [u8; 5632]) -> Option<u16>
-    requires partner { is_sender window.old 1 ≡ true }
-    requires idle { waiting window.old 1 ≡ None }
-    requires sender { piece.now.from ≡ 1 }
-    ensures partner { is_sender window.new 1 ≡ true }
-    ensures idle { waiting window.new 1 ≡ None }
+/// Takes a piece from a host, and hands out the message that it completes.
+fn hear(window: &mut Window, from: u8, piece: &Piece, out: &mut [u8; 5632]) -> Option<u16>
+    requires partner { is_sender window.old from ≡ true }
+    requires idle { waiting window.old from ≡ None }
+    requires sender { piece.now.from ≡ from }
+    ensures partner { is_sender window.new from ≡ true }
+    ensures idle { waiting window.new from ≡ None }
+    ensures others { SameElsewhere window.old window.new from }
     ensures short { IfSome result (λ length. length ≤ 5632) }
 {
-    match window.take(1, piece) {
+    match window.take(from, piece) {
         Taken::Nothing => None,
         Taken::Complete(length) => {
-            window.hand_out(1, &mut out[..usize::from(length)]);
+            window.hand_out(from, &mut out[..usize::from(length)]);
             Some(length)
         }
     }
+}
+
+/// Takes a message's pieces from a host, from one place up to another, and says what the last of
+/// them gave.
+fn hear_part(
+    window: &mut Window,
+    from: u8,
+    message: u32,
+    body: &[u8],
+    places: (u8, u8),
+    out: &mut [u8; 5632],
+) -> Option<u16>
+    requires partner { is_sender window.old from ≡ true }
+    requires idle { waiting window.old from ≡ None }
+    ensures partner { is_sender window.new from ≡ true }
+    ensures idle { waiting window.new from ≡ None }
+    ensures others { SameElsewhere window.old window.new from }
+{
+    let mut given = None;
+    let (first, end) = places;
+    for place in first..end {
+        if let Some(heard) = piece(from, message, body, place) {
+            given = hear(window, from, &heard, out);
+        }
+    }
+    given
 }
 
 /// A piece that is heard, by its message, the message's bytes and its place; and whether it gives
@@ -62,8 +89,8 @@ fn follow(alloc: Global, steps: &[Step]) -> Result<usize, AllocError> {
     let mut out = [0u8; 5632];
     let mut right = 0usize;
     for (message, body, place, gives) in steps {
-        if let Some(heard) = piece(*message, body, *place) {
-            let is_right = match hear(&mut window, &heard, &mut out) {
+        if let Some(heard) = piece(1, *message, body, *place) {
+            let is_right = match hear(&mut window, 1, &heard, &mut out) {
                 Some(length) => *gives && &out[..usize::from(length)] == *body,
                 None => !*gives,
             };
@@ -75,7 +102,7 @@ fn follow(alloc: Global, steps: &[Step]) -> Result<usize, AllocError> {
 
 #[test]
 fn messages_come_once_and_in_order(rt: HostRuntime) -> Result<(), Fail> {
-    let rows: [(&str, &[Step]); 8] = [
+    let rows: [(&str, &[Step]); 12] = [
         ("one piece", &[(0, &HI, 0, true)]),
         (
             "repeats",
@@ -102,6 +129,40 @@ fn messages_come_once_and_in_order(rt: HostRuntime) -> Result<(), Fail> {
             &[
                 (0, &LONG, 0, false),
                 (1, &TWO, 0, true),
+                (0, &LONG, 1, false),
+            ],
+        ),
+        (
+            "two at once",
+            &[
+                (0, &LONG, 0, false),
+                (1, &OTHER, 0, false),
+                (0, &LONG, 1, true),
+                (1, &OTHER, 1, true),
+            ],
+        ),
+        (
+            "three ahead",
+            &[
+                (0, &LONG, 0, false),
+                (3, &OTHER, 0, false),
+                (0, &LONG, 1, true),
+            ],
+        ),
+        (
+            "four ahead",
+            &[
+                (0, &LONG, 0, false),
+                (4, &OTHER, 0, false),
+                (0, &LONG, 1, false),
+            ],
+        ),
+        (
+            "the greater one first",
+            &[
+                (0, &LONG, 0, false),
+                (1, &OTHER, 0, false),
+                (1, &OTHER, 1, true),
                 (0, &LONG, 1, false),
             ],
         ),
@@ -137,15 +198,36 @@ fn the_longest_message_comes_backwards(rt: HostRuntime) -> Result<(), Fail> {
     }
     let mut out = [0u8; 5632];
     for place in (0..64u8).rev() {
-        let heard = piece(7, &body, place);
+        let heard = piece(1, 7, &body, place);
         assert!(rt; heard.is_some());
         if let Some(heard) = heard {
-            let given = hear(&mut window, &heard, &mut out);
+            let given = hear(&mut window, 1, &heard, &mut out);
             let want = if place == 0 { Some(5632) } else { None };
             assert!(rt; given == want, "at {place}");
         }
     }
     assert!(rt; out == body);
+    Ok(())
+}
+
+#[test]
+fn a_partner_whose_places_are_full_holds_no_other_up(rt: HostRuntime) -> Result<(), Fail> {
+    let mut window = Window::open(rt.alloc(), &[1, 2])?;
+    let body = [0xee; 5632];
+    let mut out = [0u8; 5632];
+    for message in 0..4u32 {
+        let given = hear_part(&mut window, 1, message, &body, (0, 63), &mut out);
+        assert!(rt; given.is_none(), "at {message}");
+    }
+    let given = hear_part(&mut window, 2, 0, &LONG, (0, 2), &mut out);
+    assert!(rt; given == Some(89));
+    assert!(rt; out.starts_with(&LONG));
+    for message in 0..4u32 {
+        let given = hear_part(&mut window, 1, message, &body, (63, 64), &mut out);
+        assert!(rt; given == Some(5632), "at {message}");
+        assert!(rt; out == body);
+        out.fill(0);
+    }
     Ok(())
 }
 
@@ -175,11 +257,11 @@ fn the_window_does_what_the_scan_does(rt: HostRuntime) -> Result<(), Fail> {
     let mut given_count = 0u32;
     for step in 0..400u32 {
         seed = next(seed);
-        let message = step / 12 + (seed >> 8) % 3;
-        if let Some(x) = piece(message, some_body(seed >> 12), ((seed >> 20) % 3) as u8) {
+        let message = step / 16 + (seed >> 8) % 5;
+        if let Some(x) = piece(1, message, some_body(seed >> 12), ((seed >> 20) % 3) as u8) {
             heard.insert(0, x)?;
             let want = scan::completed(rt.alloc(), &heard)?;
-            let given = hear(&mut window, &x, &mut out);
+            let given = hear(&mut window, 1, &x, &mut out);
             match (given, want) {
                 (Some(length), Some(want)) => {
                     given_count = given_count.saturating_add(1);

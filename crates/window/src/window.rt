@@ -1,42 +1,62 @@
-ghost use Rattle.std.specs.Prelude.{◌≡◌, ℕ, ◌≤◌, ◌<◌, true, None, List, [], ◌∷◌, length, IfOk, IfSome, IsSomeAnd};
+ghost use Rattle.std.specs.Prelude.{◌≡◌, ℕ, ◌≤◌, ◌<◌, true, None, List, [], ◌∷◌, length, replicate, IfOk, IfSome, IsSomeAnd};
 ghost use Rattle.frame.specs.Pieces.{PieceView};
+ghost use Rattle.frame_pool.specs.Pools.{chain_of};
 ghost use Rattle.window.specs.ListRule.{body};
 ghost use Rattle.window.specs.Windows.{is_among, AreDifferent, is_sender, waiting, StandsFor, SameElsewhere, taken, waiting_after, IsShort};
 ghost use Rattle.window.specs.inside.Receptions.{Opened};
 
 use crate::reception::{Reception, Taken};
 use frame::Piece;
+use frame_pool::Pool;
 use std::alloc::{AllocError, Global};
 use std::marker::Model;
 
-/// What came from each partner, at the partner's address.
+/// The most partners.
+const PARTNERS: usize = 64;
+
+/// How many slots each partner may hold: as many as it has places.
+const QUOTA: u16 = 256;
+
+/// What came from each partner, at the partner's address, and the pool with its bytes.
 #[derive(Drop)]
 pub struct Window {
+    pool: Pool,
     receptions: Vec<Option<Reception>>,
 }
 
 impl Model for Window {
-    ghost use Rattle.std.specs.Prelude.{◌≡◌, length};
     ghost use Rattle.window.specs.WindowView.{WindowView};
 
     ghost Value = { WindowView };
 
-    ghost use Rattle.window.specs.inside.Receptions.{view_of};
+    ghost use Rattle.window.specs.inside.Receptions.{view_of, Kept};
 
     ghost view = { view_of };
 
-    ghost invariant = { λ a. length a.receptions.items ≡ 256 };
+    ghost invariant = { Kept };
 }
 
-/// What came from an address: nothing yet if it is a partner's.
-fn open_at(alloc: Global, is_partner: bool) -> Result<Option<Reception>, AllocError>
-    ensures { IfOk result (λ reception. Opened reception is_partner) }
+/// A pool with an owner for each of so many partners.
+fn open_pool(alloc: Global, count: usize) -> Result<Pool, AllocError>
+    requires { count ≤ PARTNERS }
+    ensures quotas { IfOk result (λ pool. pool.quotas ≡ replicate count 256) }
+    ensures chains { IfOk result (λ pool. (owner : ℕ) → owner < count →
+        chain_of pool owner ≡ replicate 256 None) }
 {
-    if is_partner {
-        let reception = Reception::open(alloc)?;
-        return Ok(Some(reception));
+    let quotas = [QUOTA; PARTNERS];
+    Pool::open(alloc, &quotas[..count])
+}
+
+/// What came from an address: nothing yet if it is a partner's, whose owner is its place among the
+/// partners.
+fn open_at(partners: &[u8], address: u8) -> Option<Reception>
+    requires { length partners.now ≤ 64 }
+    ensures { Opened partners.now address result }
+{
+    match partners.iter().position(|partner| *partner == address) {
+        None => None,
+        Some(owner) => Some(Reception::open(owner as u16)),
     }
-    Ok(None)
 }
 
 impl Window {
@@ -51,12 +71,12 @@ impl Window {
             (λ window. (a : ℕ) → is_sender window a ≡ true → StandsFor window a []) }
         ensures waiting { IfOk result (λ window. (a : ℕ) → waiting window a ≡ None) }
     {
+        let pool = open_pool(alloc, partners.len())?;
         let mut receptions = Vec::with_capacity(alloc, 256)?;
         for address in 0..256u16 {
-            let reception = open_at(alloc, partners.contains(&(address as u8)))?;
-            receptions.push(reception)?;
+            receptions.push(open_at(partners, address as u8))?;
         }
-        Ok(Window { receptions })
+        Ok(Window { pool, receptions })
     }
 
     /// Takes a piece from its sender.
@@ -75,7 +95,7 @@ impl Window {
         ensures room { self.new.room ≡ self.old.room }
     {
         match &mut self.receptions[usize::from(from)] {
-            Some(reception) => reception.take(piece),
+            Some(reception) => reception.take(&mut self.pool, piece),
             None => unreachable!(),
         }
     }
@@ -93,7 +113,7 @@ impl Window {
         ensures room { self.new.room ≡ self.old.room }
     {
         match &mut self.receptions[usize::from(from)] {
-            Some(reception) => reception.hand_out(out),
+            Some(reception) => reception.hand_out(&mut self.pool, out),
             None => unreachable!(),
         }
     }

@@ -1,9 +1,17 @@
 use frame::{PIECE_SIZE, Piece};
 
-/// Copies a piece to its place in its sender's row, and the row out if the piece is its message's
+/// How many rows each sender has: its messages take them in turn.
+pub const KEPT: usize = 4;
+
+/// The row of a piece's message.
+fn row_of(piece: &Piece) -> usize {
+    KEPT * usize::from(piece.from()) + piece.message() as usize % KEPT
+}
+
+/// Copies a piece to its place in its message's row, and the row out if the piece is its message's
 /// last.
 fn copy_piece(rows: &mut [[u8; 5632]], piece: &Piece, out: &mut [u8; 5632]) {
-    let Some(row) = rows.get_mut(usize::from(piece.from())) else {
+    let Some(row) = rows.get_mut(row_of(piece)) else {
         return;
     };
     let start = PIECE_SIZE * usize::from(piece.piece());

@@ -1,12 +1,13 @@
 use frame::{MESSAGE_LIMIT, Piece, cut, pieces};
 use std::alloc::{AllocError, Global};
 
-/// Messages of so many partners, how many each of them sends, and how often all of them are taken
-/// in a round.
+/// Messages of so many partners: how many each of them sends, of how many the pieces come mixed,
+/// and how often all of them are taken in a round.
 #[derive(Clone, Copy)]
 pub struct Load {
     pub partners: u8,
     pub messages: u32,
+    pub mixed: u32,
     pub turns: u32,
 }
 
@@ -32,16 +33,16 @@ fn push_piece(
     Ok(())
 }
 
-/// Appends one piece of each partner's message, all with this number and these bytes.
-fn push_turn(
-    heard: &mut Vec<Piece>,
-    partners: u8,
-    message: u32,
-    body: &[u8],
-    i: u8,
-) -> Result<(), AllocError> {
+/// The bytes of a message: all are the last of its number.
+fn body_of(message: u32) -> [u8; 5632] {
+    [(message % 256) as u8; 5632]
+}
+
+/// Appends the same piece of each partner's message with this number.
+fn push_turn(heard: &mut Vec<Piece>, partners: u8, message: u32, i: u8) -> Result<(), AllocError> {
+    let body = body_of(message);
     for from in 0..partners {
-        push_piece(heard, from, message, body, i)?;
+        push_piece(heard, from, message, &body, i)?;
     }
     Ok(())
 }
@@ -52,21 +53,37 @@ impl Traffic {
             bodies: Vec::new(alloc),
             heard: Vec::new(alloc),
         };
-        for message in 0..load.messages {
-            traffic.add(load.partners, message)?;
+        let mixed = load.mixed.max(1);
+        for group in 0..load.messages / mixed {
+            let first = group.saturating_mul(mixed);
+            traffic.add(load.partners, first, first.saturating_add(mixed))?;
         }
         Ok(traffic)
     }
 
-    /// Adds one message of each partner, whose pieces come in turn. All bytes are the last of its
-    /// number.
-    fn add(&mut self, partners: u8, message: u32) -> Result<(), AllocError> {
-        let body = [(message % 256) as u8; 5632];
+    /// Adds the messages from `first` to before `end` of each partner. Their pieces come mixed:
+    /// those at the first place of all of them, then those at the next, to the last.
+    fn add(&mut self, partners: u8, first: u32, end: u32) -> Result<(), AllocError> {
+        for message in first..end {
+            self.add_bodies(partners, message)?;
+        }
+        for i in 0..64u8 {
+            self.add_places(partners, first, end, i)?;
+        }
+        Ok(())
+    }
+
+    fn add_bodies(&mut self, partners: u8, message: u32) -> Result<(), AllocError> {
+        let body = body_of(message);
         for _ in 0..partners {
             self.bodies.push(body)?;
         }
-        for i in 0..64u8 {
-            push_turn(&mut self.heard, partners, message, &body, i)?;
+        Ok(())
+    }
+
+    fn add_places(&mut self, partners: u8, first: u32, end: u32, i: u8) -> Result<(), AllocError> {
+        for message in first..end {
+            push_turn(&mut self.heard, partners, message, i)?;
         }
         Ok(())
     }

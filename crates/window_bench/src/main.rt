@@ -2,9 +2,9 @@
 //! the pieces to their places and the whole messages out, with no window; and copies each message
 //! once.
 //!
-//! `window_bench ROUNDS` does this with few messages of one partner, with many of one, and with as
-//! many of 64 whose pieces come in turn. It prints sums of the last bytes that came out, and the
-//! times on standard error.
+//! `window_bench ROUNDS` does this with few messages of one partner, with many of one, with as many
+//! of 64 whose pieces come in turn, and with those of 64 of which four of each come mixed. It
+//! prints sums of the last bytes that came out, and the times on standard error.
 //!
 //! `window_bench through COUNT` sends so many messages through one window, and prints the sum of
 //! their last bytes.
@@ -16,7 +16,7 @@ mod copies;
 mod load;
 mod windows;
 
-use copies::{copy_bodies, copy_pieces};
+use copies::{KEPT, copy_bodies, copy_pieces};
 use load::{Load, Traffic};
 use std::env;
 use std::io::Result;
@@ -24,20 +24,29 @@ use std::time::Instant;
 use windows::{hear_all, open, send_through};
 
 /// A round takes 1,024 messages of each load.
-const LOADS: [Load; 3] = [
+const LOADS: [Load; 4] = [
     Load {
         partners: 1,
         messages: 16,
+        mixed: 1,
         turns: 64,
     },
     Load {
         partners: 1,
         messages: 1024,
+        mixed: 1,
         turns: 1,
     },
     Load {
         partners: 64,
         messages: 16,
+        mixed: 1,
+        turns: 1,
+    },
+    Load {
+        partners: 64,
+        messages: 16,
+        mixed: 4,
         turns: 1,
     },
 ];
@@ -79,7 +88,7 @@ impl Totals {
         requires { load.partners ≤ 64 }
     {
         let mut window = open(rt.alloc(), load.partners)?;
-        let mut rows = vec![in rt.alloc(); [0u8; 5632]; usize::from(load.partners)]?;
+        let mut rows = vec![in rt.alloc(); [0u8; 5632]; KEPT * usize::from(load.partners)]?;
         let mut out = [0u8; 5632];
         let start = Instant::now(rt)?;
         hear_all(&mut window, &traffic.heard, load.partners, &mut out);
@@ -130,8 +139,8 @@ fn measure_all(rt: &HostRuntime, rounds: u32) -> Result<()> {
         } = measure(rt, load, rounds)?;
         println!(rt; "{} {} {}", windows.sum, pieces.sum, bodies.sum)?;
         eprint!(rt;
-            "partners: {}, messages of each: {}, ",
-            load.partners, load.messages
+            "partners: {}, messages of each: {}, mixed: {}, ",
+            load.partners, load.messages, load.mixed
         )?;
         eprintln!(rt;
             "take and hand out: {} ns, pieces and messages: {} ns, messages: {} ns",

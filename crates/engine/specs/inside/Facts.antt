@@ -1,5 +1,5 @@
 -- What the crates below promise, as lemmas take it.
-use Rattle.std.specs.Prelude.{◌≡◌, ◌≢◌, ℕ, ◌<◌, ◌≤◌, List, [], ◌∷◌, ◌++◌, ◌&&◌, length, true, false, Some, slice_get, not}
+use Rattle.std.specs.Prelude.{◌≡◌, ◌≢◌, ℕ, ◌<◌, ◌≤◌, List, [], ◌∷◌, length, true, false, Some, slice_get}
 use Rattle.std.specs.List.{flat_map, range_with_len, AllByRecursion}
 use Rattle.levels.specs.declared.level.Partition.{Partition}
 use Rattle.levels.specs.declared.level.Party.{Party}
@@ -10,6 +10,7 @@ use Rattle.seal_core.specs.Sealing.{Sealer, IsSealing}
 use Rattle.seal_core.specs.declared.KeyPair.{KeyPair}
 use Rattle.frame.specs.Pieces.{PieceView, pieces, piece_bytes, used_bytes, piece_of, IsPiece}
 use Rattle.frame.specs.Frames.{frame_of}
+use Rattle.frame.specs.Ahead.{messages_ahead}
 use Rattle.events.specs.declared.event.Event.{Event}
 use Rattle.events.specs.Scripts.{is_known}
 use Rattle.net_side.specs.NetView.{NetView}
@@ -17,8 +18,7 @@ use Rattle.net_side.specs.Nets.{IsInbound, OpensAt, has_opened}
 use Rattle.net_side.specs.declared.inbound.Inbound.{Inbound}
 use Rattle.machine.specs.Setup.{Setup}
 use Rattle.machine.specs.Low.{place_of}
-use Rattle.machine.specs.Given.{has_all, has_later}
-use Rattle.machine.specs.Machine.{State, address_of, number_of, handed, gives, given_to, sent_by, after, state}
+use Rattle.machine.specs.Machine.{State, address_of, number_of, given_to, sent_by, after, state}
 use Rattle.machine.specs.Wire.{frames_of, frames_from}
 use Rattle.machine.specs.Laws.{IsOneAtMost, HandsOver, HandsNothing, HandsOne, OneFrame, StaysAt, FramesApart, AreSmall}
 
@@ -64,12 +64,6 @@ pub record Laws : Type 0 where
       → frames_from m x e s ≡ frames_of m s r (length (x.sent s r)) body
   pub elsewhere : (m : Setup) (e : Event) (x : State) (r : Party)
       → is_same_party (place_of e) r ≡ false → StaysAt r x (after m e x)
-  pub new : (m : Setup) (past : List Event) (e : Event) (s u : Party) (j : ℕ) → m.ahead ≡ 0
-      → gives m (state m past) e s u j
-      ≡ (has_all (slice_get ((state m past).sent s u) j)
-      (handed m (state m past) e s u ++ (state m past).arrived s u) j
-      && not (has_all (slice_get ((state m past).sent s u) j) ((state m past).arrived s u) j)
-      && not (has_later ((state m past).arrived s u) j))
   pub sent_piece : (m : Setup) (past : List Event) (s r : Party) (j i : ℕ) (body : List ℕ)
       → IsRoster m.roster → AreSmall (state m past)
       → slice_get ((state m past).sent s r) j ≡ Some body → i < pieces body
@@ -104,7 +98,7 @@ pub record Laws : Type 0 where
 pub record Fits (m : Setup) (past : List Event) : Type 0 where
   pub roster : IsRoster m.roster
   pub sealing : IsSealing m.sealed
-  pub ahead : m.ahead ≡ 0
+  pub ahead : m.ahead ≡ messages_ahead
   pub small : AreSmall (state m past)
   pub apart : FramesApart m (state m past)
   pub few : (s r : Party) → length ((state m past).sent s r) ≤ 200000

@@ -1,17 +1,9 @@
 -- The places of one message, each with its bytes or none.
-use Rattle.std.specs.Prelude.{ℕ, ◌+◌, ◌*◌, List, [], ◌∷◌, ◌++◌, length, take, drop, Bool, not, ◌==◌, ◌&&◌, Option, Some, None, unwrap_or, is_some, replicate}
-use Rattle.std.specs.List.{flat_map}
+use Rattle.std.specs.Prelude.{ℕ, ◌+◌, List, [], ◌∷◌, length, Bool, false, not, ◌==◌, ◌&&◌, Option, Some, None, is_some, replicate, if◌then◌else◌}
+use Rattle.std.specs.List.{list_all}
 use Rattle.std.proofs.Math.ListN.{get_or, set}
 use Rattle.frame.specs.Pieces.{PieceView, used_bytes}
-
--- the places, and how many bytes they have room for
-pub record PlacesView : Type 0 where
-  pub held : List (Option (List ℕ))
-  pub room : ℕ
-
--- the bytes of all places, in order
-abbrev pub joined : List (Option (List ℕ)) → List ℕ
-joined places = flat_map (λ bytes. unwrap_or bytes []) places
+use Rattle.frame_pool.specs.Pools.{joined}
 
 -- the places 0 to last, all empty
 abbrev pub nothing_held : ℕ → List (Option (List ℕ))
@@ -31,6 +23,24 @@ has_room_for places x = x.last + 1 == length places && not (is_some (get_or plac
 abbrev pub with_piece : List (Option (List ℕ)) → PieceView → List (Option (List ℕ))
 with_piece places x = set places x.piece (Some (used_bytes x))
 
--- bytes with this block at a place
-abbrev pub with_block : List ℕ → ℕ → List ℕ → List ℕ
-with_block bytes i block = take (88 * i) bytes ++ (block ++ drop (88 * i + 88) bytes)
+-- the places with a piece more, if it has room
+abbrev pub put_in : List (Option (List ℕ)) → PieceView → List (Option (List ℕ))
+put_in places x = if has_room_for places x then with_piece places x else places
+
+-- the places of a message, empty ones where nothing of it was held
+abbrev pub or_new : List (Option (List ℕ)) → ℕ → List (Option (List ℕ))
+or_new [] last = nothing_held last
+or_new (place ∷ places) last = place ∷ places
+
+-- the places of its message after a piece came
+abbrev pub after_piece : List (Option (List ℕ)) → PieceView → List (Option (List ℕ))
+after_piece places x = put_in (or_new places x.last) x
+
+-- whether there are places, and none is empty
+abbrev pub is_full : List (Option (List ℕ)) → Bool
+is_full [] = false
+is_full (place ∷ places) = list_all is_some (place ∷ places)
+
+-- how many bytes the places have together, if none is empty
+abbrev pub full_length : List (Option (List ℕ)) → Option ℕ
+full_length places = if is_full places then Some (length (joined places)) else None

@@ -1,55 +1,85 @@
--- How far the newest message of a partner is, and the lists of pieces that it stands for.
-use Rattle.std.specs.Prelude.{◌≡◌, ℕ, List, [], length, map, Bool, true, false, nat_lt, ◌==◌, Option, Some, None, is_some, if◌then◌else◌}
-use Rattle.std.specs.List.{list_all}
+-- What is kept of a partner, and the lists of pieces that it stands for.
+use Rattle.std.specs.Prelude.{◌≡◌, ℕ, List, [], length, Bool, true, false, nat_lt, ◌&&◌, ◌||◌, Option, Some, None, if◌then◌else◌}
 use Rattle.frame.specs.Pieces.{PieceView}
+use Rattle.frame_pool.specs.PoolView.{PoolView}
+use Rattle.frame_pool.specs.Pools.{blocks_of, joined}
 use Rattle.window.specs.WindowView.{Whole, PartnerView}
-use Rattle.window.specs.ListRule.{last_of, is_whole, has_newer, bytes_at, places_to}
-use Rattle.window.specs.inside.Places.{joined}
-use Rattle.window.specs.declared.reception.Stage.{Stage}
-use Rattle.window.specs.declared.reception.Stage.TheVariants.{Unheard, Open, Given}
+use Rattle.window.specs.ListRule.{given_in, places_held}
+use Rattle.window.specs.Windows.{IsNewest, IsGreatest, is_recent, is_above, is_waiting, Waits}
+use Rattle.window.specs.inside.Places.{is_full, full_length}
+use Rattle.window.specs.inside.Quarters.{held, messages_from, Keeps}
 use Rattle.window.specs.declared.reception.Taken.{Taken}
 use Rattle.window.specs.declared.reception.Taken.TheVariants.{Nothing, Complete}
+use Rattle.window.specs.declared.reception.Waiting.{Waiting}
+use Rattle.window.specs.declared.reception.Reception.{Reception}
 
--- Of message j, after which none has begun, the places are those of its first pieces.
-pub record Gathers (places : List (Option (List ℕ))) (h : List PieceView) (j : ℕ) : Type 0 where
-  pub newest : has_newer h j ≡ false
-  pub last : ℕ
-  pub is_last : last_of h j ≡ Some last
-  pub held : places ≡ map (bytes_at h j last) (places_to last)
+abbrev pub whole_of : Option Waiting → Option Whole
+whole_of None = None
+whole_of (Some waiting) = Some (record { message = waiting.message; length = waiting.length })
 
--- what is held of a partner is what these pieces of it left
-abbrev pub Holds : Stage → List (Option (List ℕ)) → List PieceView → Type 0
-Holds Unheard places h = h ≡ []
-Holds (Open j) places h = Gathers places h j
-Holds (Given j) places h = (has_newer h j ≡ false) × (is_whole h j ≡ true)
+-- the greater of the newest number and this one
+abbrev pub later_of : Option ℕ → ℕ → ℕ
+later_of None j = j
+later_of (Some newest) j = if nat_lt newest j then j else newest
 
--- whether a message is newer than all that have begun
-abbrev pub is_newer : Stage → ℕ → Bool
-is_newer Unheard j = true
-is_newer (Open newest) j = nat_lt newest j
-is_newer (Given newest) j = nat_lt newest j
+abbrev pub answer_with : Option ℕ → Taken
+answer_with None = Nothing
+answer_with (Some n) = Complete n
 
--- whether a message has begun, and was not handed out
-abbrev pub is_open : Stage → ℕ → Bool
-is_open Unheard j = false
-is_open (Open newest) j = newest == j
-is_open (Given newest) j = false
-
--- the answer to a piece that was put
+-- the answer where a message has these places
 abbrev pub answer_of : List (Option (List ℕ)) → Taken
-answer_of places = if list_all is_some places then Complete (length (joined places)) else Nothing
+answer_of places = answer_with (full_length places)
 
--- a message waits where none of its places is empty
-abbrev pub waiting_at : Stage → List (Option (List ℕ)) → Option Whole
-waiting_at Unheard places = None
-waiting_at (Open j) places =
-    if list_all is_some places then Some
-    (record { message = j; length = length (joined places) }) else None
-waiting_at (Given j) places = None
+-- the greatest given number after this answer
+abbrev pub given_with : Option ℕ → ℕ → Taken → Option ℕ
+given_with given j Nothing = given
+given_with given j (Complete n) = Some j
+
+-- what waits after this answer
+abbrev pub waiting_with : Option Whole → ℕ → Taken → Option Whole
+waiting_with waiting j Nothing = waiting
+waiting_with waiting j (Complete n) = Some (record { message = j; length = n })
+
+-- whether message k is let go after this answer to a piece of message j
+abbrev pub is_let_go : ℕ → Taken → ℕ → Bool
+is_let_go j Nothing k = false
+is_let_go j (Complete n) k = nat_lt k j
+
+-- the message that waits is held whole
+abbrev pub IsReady : Option Whole → (ℕ → List (Option (List ℕ))) → Type 0
+IsReady None places = Unit {0}
+IsReady (Some whole) places = (is_full (places whole.message) ≡ true)
+    × (whole.length ≡ length (joined (places whole.message)))
+
+-- what is kept of a partner is in its places of the pool
+pub record KeepsAll (a : Reception) (pool : PoolView) : Type 0 where
+  pub heads : Keeps a.heads pool
+  pub waiting : IsReady (whole_of a.waiting) (held a.heads pool)
+
+-- whether message j may be held
+abbrev pub is_kept : Option ℕ → Option ℕ → Option Whole → ℕ → Bool
+is_kept newest given waiting j = (is_recent newest j && is_above given j) || is_waiting waiting j
+
+-- of each message the places are those of this list of pieces, if it may be held
+abbrev pub HoldsOnly : (ℕ → Bool) → (ℕ → List (Option (List ℕ))) → List PieceView → Type 0
+HoldsOnly keeps places h = (j : ℕ) → places j ≡ (if keeps j then places_held h j else [])
+
+-- what is held is what this list of pieces left
+pub record Holds (latest last_given : Option ℕ) (ready : Option Whole)
+    (places : ℕ → List (Option (List ℕ))) (h : List PieceView) : Type 0 where
+  pub newest : IsNewest latest h
+  pub given : IsGreatest last_given (given_in h)
+  pub held : HoldsOnly (is_kept latest last_given ready) places h
+  pub waiting : Waits ready last_given h
+
+abbrev pub Stood : Reception → PoolView → List PieceView → Type 0
+Stood a pool h = Holds a.newest a.given (whole_of a.waiting) (held a.heads pool) h
 
 -- what contracts see of a partner
-abbrev pub partner_of : Stage → List (Option (List ℕ)) → PartnerView
-partner_of Unheard places = record { newest = None; held = None; waiting = None }
-partner_of (Open j) places =
-    record { newest = Some j; held = Some places; waiting = waiting_at (Open j) places }
-partner_of (Given j) places = record { newest = Some j; held = None; waiting = None }
+abbrev pub partner_of : PoolView → Reception → PartnerView
+partner_of pool a = record {
+  newest = a.newest;
+  given = a.given;
+  held = messages_from 0 a.heads.heads (blocks_of pool a.heads.owner);
+  waiting = whole_of a.waiting;
+}

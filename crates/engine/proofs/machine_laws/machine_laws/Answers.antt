@@ -18,7 +18,6 @@ returns c = record {
   no_frames = c.one_message_has_its_frames.ensures.nothing;
   its_frames = c.one_message_has_its_frames.ensures.one;
   elsewhere = c.elsewhere_all_stays.ensures;
-  new = c.one_message_at_a_time.ensures;
   sent_piece = c.sent_pieces_fit_frames.ensures;
   partition = c.parties_have_addresses.ensures.partition;
   address = c.parties_have_addresses.ensures.address;

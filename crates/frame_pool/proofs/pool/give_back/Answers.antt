@@ -4,7 +4,7 @@ use Rattle.std.proofs.lemmas.List.{set-get_or}
 use Rattle.frame_pool.specs.Pools.{times, slots_in, held_count}
 use Rattle.frame_pool.specs.inside.Kept.{emptied}
 use Rattle.frame_pool.proofs.Counting.{count_let_go}
-use Rattle.frame_pool.proofs.Emptying.{emptied_empty, emptied_more}
+use Rattle.frame_pool.proofs.Emptying.{emptied_rest, emptied_more}
 use Rattle.frame_pool.proofs.Times.{times-append, times_alone, times_let_go}
 use Rattle.frame_pool.proofs.pool.give_back.Goals as goal
 use Rattle.frame_pool.proofs.pool.give_back.Goals.{in-Some, in_default}
@@ -14,8 +14,12 @@ stays chain place none = ap (set chain place) (sym none) ∙ set-get_or chain pl
 
 pub returns-then-held-eq0-clause-chain : goal.returns-then-held-eq0-clause-chain
 returns-then-held-eq0-clause-chain c =
-    sym (emptied_empty c.args.chain.now c.args.first c.args.count (omega (arith, c.requires.chain, c.requires.places))
-    (omega (arith, c.held.ensures, c.if-held-eq0.true)))
+    let was = c.loop-place.invariant in
+    was.chain
+    ∙ emptied_rest c.args.chain.now c.args.first (c.loop-place.place - c.args.first) c.args.count
+    (omega (arith, c.requires.chain, c.requires.places))
+    (omega (arith, c.loop-place.auto.place-end))
+    (sym (ap (held_count {A = ℕ}) was.chain) ∙ sym c.held.ensures ∙ omega (arith, c.if-held-eq0.true))
 
 pub push_reserved-requires : goal.push_reserved-requires
 push_reserved-requires c =
