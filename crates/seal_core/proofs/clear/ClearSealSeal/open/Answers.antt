@@ -22,7 +22,8 @@ returns-then-is_same_block-clause-alone c =
     let n = length c.args.plain.now in
     let is = clear_alone c.args.keys.now text _ _ _ nonce body n c.requires.room
     c.copy_from_slice.ensures.after (c.copy_from_slice-2.ensures.after
-    ∙ ap (λ (k : ℕ). take k (drop 8 text)) (omega arith)) (c.copy_from_slice-3.ensures.after ∙ take_rest text (8 + n)) h in
+    ∙ ap (λ (k : ℕ). take k (drop 8 text)) (omega arith))
+    (c.copy_from_slice-3.ensures.after ∙ take_rest text (8 + n)) h in
     (ap (λ (b : List ℕ). Some b) is.0, is.1)
 
 pub returns-clause-alone : goal.returns-clause-alone
@@ -32,6 +33,7 @@ returns-clause-alone c =
     let n = length c.args.plain.now in
     let is = clear_alone c.args.keys.now text _ _ _ nonce body n c.requires.room
     c.copy_from_slice.ensures.after (c.copy_from_slice-2.ensures.after
-    ∙ ap (λ (k : ℕ). take k (drop 8 text)) (omega arith)) (c.copy_from_slice-3.ensures.after ∙ take_rest text (8 + n)) h in
+    ∙ ap (λ (k : ℕ). take k (drop 8 text)) (omega arith))
+    (c.copy_from_slice-3.ensures.after ∙ take_rest text (8 + n)) h in
     let same = c.is_same_block.ensures.1 (is.2 ∙ sym c.check_block-check.ensures) in
     absurd (false≢true (sym c.if-is_same_block.false ∙ same))
